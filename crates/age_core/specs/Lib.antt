@@ -1,0 +1,10 @@
+-- what a source and a sink of bytes mean
+pub mod Outside
+-- the counts of the adapters over the standard streams
+pub mod Adapters
+-- one stanza and its one spelling
+pub mod Stanza
+-- the stanzas before the first `done`, within a budget
+pub mod Reading
+-- the plain program that finds a stanza: no public clause cites it
+pub mod Scan

@@ -1,0 +1,52 @@
+-- What a source and a sink of bytes mean, and when a fault may be answered.
+use Rattle.std.specs.Prelude.{◌≡◌, ℕ, ◌+◌, ◌<◌, ◌≤◌, min, Bool, List, [], ◌++◌, length, take, drop, Option, Some, IfSome}
+
+-- the last value of a count: it stands still there, at 2 ^ 64 - 1
+abbrev pub last_count : ℕ
+last_count = 18446744073709551615
+
+-- one more, up to the last value
+abbrev pub next_count : ℕ → ℕ
+next_count n = min (n + 1) last_count
+
+-- the count rose, or stands at its last value
+abbrev pub Rose : ℕ → ℕ → Type 0
+Rose before now = next_count before ≤ now
+
+-- A read of n bytes: they are the front of the text, which loses them, and none of a buffer
+-- that isn't empty only where the text is empty.
+pub record Took (text : List ℕ) (now : Option (List ℕ)) (n : ℕ) (buffer : List ℕ) : Type 0 where
+  pub within : n ≤ length text
+  pub front : take n buffer ≡ take n text
+  pub rest : now ≡ Some (drop n text)
+  pub ended : n ≡ 0 → 0 < length buffer → text ≡ []
+
+-- where a source tells its bytes, it gave n of them
+abbrev pub Gives : Option (List ℕ) → Option (List ℕ) → ℕ → List ℕ → Type 0
+Gives before now n buffer = IfSome before (λ text. Took text now n buffer)
+
+-- where a sink tells what it got, it gained exactly this
+abbrev pub Gains : Option (List ℕ) → Option (List ℕ) → List ℕ → Type 0
+Gains before now output = IfSome before (λ got. now ≡ Some (got ++ output))
+
+-- where a sink tells what it got, it gained a front of the output
+abbrev pub GainsPart : Option (List ℕ) → Option (List ℕ) → List ℕ → Type 0
+GainsPart before now output = IfSome before (λ got. (part : List ℕ) × (rest : List ℕ) × (output ≡ part ++ rest) × (now ≡ Some (got ++ part)))
+
+-- a source over memory: the bytes that are left, the most that a read gives, the numbers of the
+-- reads that fail, and how many reads and faults there were
+pub record MemoryLeft : Type 0 where
+  pub left : List ℕ
+  pub piece : ℕ
+  pub fail_at : List ℕ
+  pub reads : ℕ
+  pub faults : ℕ
+
+-- a sink over memory: the bytes that it got, the numbers of the writes that fail, how many writes
+-- and faults there were, and whether a write found no memory
+pub record MemoryGot : Type 0 where
+  pub got : List ℕ
+  pub fail_at : List ℕ
+  pub writes : ℕ
+  pub faults : ℕ
+  pub ran_out : Bool

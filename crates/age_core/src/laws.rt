@@ -1,0 +1,28 @@
+//! Laws of the definitions, each as the contract of a function that does nothing.
+
+ghost use Rattle.std.specs.Prelude.{◌≡◌, ℕ, List, [], ◌∷◌, ◌++◌, codes, replicate};
+ghost use Rattle.age_core.specs.Stanza.{Stanza, IsStanza, spelling};
+ghost use Rattle.age_core.specs.Reading.{Reading, Reads};
+
+/// No spelling begins another: what two stanzas spell at the front of one text is one stanza.
+pub fn no_spelling_begins_another()
+    ensures stanzas { (s t : Stanza) (more rest : List ℕ) → IsStanza s → IsStanza t
+        → spelling s ++ more ≡ spelling t ++ rest → s ≡ t }
+    ensures rests { (s t : Stanza) (more rest : List ℕ) → IsStanza s → IsStanza t
+        → spelling s ++ more ≡ spelling t ++ rest → more ≡ rest }
+{}
+
+/// No text has two readings.
+pub fn one_reading()
+    ensures { (text : List ℕ) (budget : ℕ) (one other : Reading)
+        → Reads text budget one → Reads text budget other → one ≡ other }
+{}
+
+/// Three stanzas and what spells them, worked by hand.
+pub fn worked_spellings()
+    ensures done { spelling (record { tag = codes "done"; args = []; body = [] }) ≡ codes "-> done" ++ 10 ∷ 10 ∷ [] }
+    ensures test { spelling (record { tag = codes "test"; args = codes "foo" ∷ []; body = codes "bar" })
+        ≡ codes "-> test foo" ++ 10 ∷ codes "YmFy" ++ 10 ∷ [] }
+    ensures zeros { spelling (record { tag = codes "kem"; args = []; body = replicate 32 0 })
+        ≡ codes "-> kem" ++ 10 ∷ replicate 43 65 ++ 10 ∷ [] }
+{}
