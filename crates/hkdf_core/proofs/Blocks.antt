@@ -1,5 +1,5 @@
 -- Keys as one block.
-use Rattle.std.proofs.Common.{◌≡◌, ℕ, ◌+◌, ◌-◌, ◌≤◌, ◌<◌, List, ◌++◌, length, take, drop, map, replicate, get_or, set, bit_xor, refl, arith, ap, ◌∙◌, length-append, length-drop, Bool, false, cond, nat_lt}
+use Rattle.std.proofs.Common.{◌≡◌, ℕ, ◌+◌, ◌-◌, ◌≤◌, ◌<◌, List, ◌++◌, length, take, drop, replicate, get_or, set, bit_xor, arith, ap, ◌∙◌, length-append, length-drop, Bool, false, cond, nat_lt}
 use Rattle.std.proofs.lemmas.List.{length-replicate, replicate-append-replicate, drop-replicate, take-replicate, append-nil, take-map, length-map, length-take-le, take_all, drop_all, get_or_default}
 use Rattle.std.proofs.lemmas.Bool.Decides.{nat_tests}
 use Rattle.std.proofs.lemmas.List.Edits.{map_over_more}

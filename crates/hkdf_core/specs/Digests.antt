@@ -1,5 +1,5 @@
 -- The law of a hash function that its digests are bytes, for SHA-256: proofs, and no definitions.
-use Rattle.std.proofs.Common.{ℕ, zero, suc, ◌<◌, ◌%◌, List, [], ◌∷◌, arith, slice_index, All}
+use Rattle.std.proofs.Common.{ℕ, zero, suc, ◌<◌, List, [], ◌∷◌, arith, slice_index, All}
 use Rattle.std.specs.Int.{w32, to_be_bytes, byte_at}
 use Rattle.std.proofs.lemmas.List.Elements.{All-append, All-nil, All-cons}
 use Rattle.sha2.specs.Sha256.{sha256, digest_bytes, final_hash, initial_hash_256}

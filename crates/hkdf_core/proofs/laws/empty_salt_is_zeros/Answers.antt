@@ -1,4 +1,4 @@
-use Rattle.std.proofs.Common.{◌≡◌, ◌≤◌, ◌++◌, ℕ, List, ap, sym, ◌∙◌, arith}
+use Rattle.std.proofs.Common.{◌≤◌, ◌++◌, ℕ, List, ap, sym, ◌∙◌, arith}
 use Rattle.hkdf_core.specs.Hmac.{hmac, masked, inner_pad, outer_pad}
 use Rattle.hkdf_core.proofs.Blocks.{key_block-zeros}
 use Rattle.hkdf_core.proofs.laws.empty_salt_is_zeros.Goals as goal

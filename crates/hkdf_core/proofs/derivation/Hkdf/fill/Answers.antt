@@ -1,7 +1,7 @@
-use Rattle.std.proofs.Common.{◌≡◌, ℕ, ◌+◌, ◌*◌, ◌<◌, ◌≤◌, List, [], ◌∷◌, ◌++◌, length, take, ap, sym, ◌∙◌, subst, arith}
+use Rattle.std.proofs.Common.{◌≡◌, ℕ, ◌+◌, ◌*◌, ◌<◌, List, [], length, take, ap, sym, ◌∙◌, arith}
 use Rattle.std.specs.Int.{div_ceil}
 use Rattle.std.proofs.lemmas.List.{take_all}
-use Rattle.hkdf_core.specs.Hmac.{hmac, key_block}
+use Rattle.hkdf_core.specs.Hmac.{hmac}
 use Rattle.hkdf_core.specs.Hkdf.{output_block, output_blocks}
 use Rattle.hkdf_core.proofs.Output.{block_begins_within, index_below, length-hmac, length-output_blocks, output_block_more, output_blocks_more, output_more, output_whole}
 use Rattle.hkdf_core.proofs.derivation.Hkdf.fill.Goals as goal

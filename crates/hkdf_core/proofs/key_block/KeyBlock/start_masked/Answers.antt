@@ -1,4 +1,4 @@
-use Rattle.std.proofs.Common.{◌≡◌, ◌<◌, ◌≤◌, ℕ, List, length, take, ap, ◌∙◌, subst, arith}
+use Rattle.std.proofs.Common.{◌<◌, ◌≤◌, ℕ, List, length, take, ap, ◌∙◌, subst, arith}
 use Rattle.hkdf_core.specs.Hmac.{masked}
 use Rattle.hkdf_core.proofs.Blocks.{masked_more, take-masked}
 use Rattle.hkdf_core.proofs.key_block.KeyBlock.start_masked.Goals as goal

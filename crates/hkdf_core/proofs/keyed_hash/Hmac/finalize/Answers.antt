@@ -1,4 +1,4 @@
-use Rattle.std.proofs.Common.{◌≡◌, ◌++◌, rules}
+use Rattle.std.proofs.Common.{◌++◌}
 use Rattle.hkdf_core.specs.Hmac.{hmac, key_block, masked, inner_pad, outer_pad}
 use Rattle.hkdf_core.proofs.keyed_hash.Hmac.finalize.Goals as goal
 
