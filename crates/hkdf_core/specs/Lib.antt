@@ -1,0 +1,8 @@
+-- HMAC: the key as one block, the two pads, the keyed hash (RFC 2104)
+pub mod Hmac
+-- HKDF: Extract, the blocks T(i), Expand (RFC 5869)
+pub mod Hkdf
+-- what the three streaming types have been fed
+pub mod Fed
+-- that a SHA-256 digest is bytes
+pub mod Digests
