@@ -1,12 +1,12 @@
 -- The lines of a body: what is read spells it, and what spells it is read.
-use Rattle.std.proofs.Common.{◌≡◌, ◌≢◌, ℕ, zero, suc, ◌+◌, ◌-◌, ◌*◌, ◌/◌, ◌%◌, ◌<◌, ◌≤◌, Bool, true, false, cond, eqb, List, [], ◌∷◌, ◌++◌, length, get_or, take, drop, Option, Some, None, Result, Ok, Err, refl, sym, ap, subst, ◌∙◌, append_assoc, ◌⊎◌, inl, inr, arith}
+use Rattle.std.proofs.Common.{◌≡◌, ◌≢◌, ℕ, zero, suc, ◌+◌, ◌*◌, ◌/◌, ◌%◌, ◌<◌, ◌≤◌, false, cond, eqb, List, [], ◌∷◌, ◌++◌, length, get_or, take, drop, Some, Result, Ok, Err, refl, sym, ap, subst, ◌∙◌, append_assoc, inl, inr, arith}
 use Rattle.std.specs.Prelude.{slice_index, option_and_then}
 use Rattle.std.specs.Result.{result_ok}
-use Rattle.std.specs.List.{flat_map, AllByRecursion, list_any}
+use Rattle.std.specs.List.{AllByRecursion, list_any}
 use Rattle.std.proofs.lemmas.Bool.{cases_lt, eqb-true, eqb-false, ne_eqb, eq-eqb, or_parts}
 use Rattle.std.proofs.lemmas.List.{append-nil, length-append, length-take, length-drop, take_at, drop_at, take-append-drop, length_push}
 use Rattle.std.proofs.lemmas.Option.{none-some, option_and_then_some}
-use Rattle.base64.specs.Rfc4648.{encode_symbols, unpadded_len}
+use Rattle.base64.specs.Rfc4648.{encode_symbols}
 use Rattle.base64.specs.GeneralPurpose.{IsStrict, encode_of, decode_of, decoded_of}
 use Rattle.base64.proofs.Canonical.{encode_symbols-append}
 use Rattle.base64.proofs.RoundTrip.{length-encode_symbols}

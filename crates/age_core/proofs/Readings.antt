@@ -1,9 +1,8 @@
 -- No text has two readings.
-use Rattle.std.proofs.Common.{◌≡◌, ◌≢◌, ℕ, ◌+◌, ◌<◌, ◌≤◌, List, [], ◌∷◌, ◌++◌, length, take, refl, sym, ap, subst, ◌∙◌, append_assoc, arith}
-use Rattle.std.specs.Prelude.{codes}
+use Rattle.std.proofs.Common.{◌≡◌, ◌≢◌, ℕ, List, [], ◌∷◌, ◌++◌, take, refl, sym, ap, subst, ◌∙◌, append_assoc, arith}
 use Rattle.std.specs.List.{flat_map, AllByRecursion}
 use Rattle.age_core.specs.Stanza.{Stanza, IsStanza, IsFront, spelling}
-use Rattle.age_core.specs.Reading.{Splits, IsDone, NoneDone, StandsBeforeDone, HasNoDone, Reading, Before_done, Invalid_data, Unexpected_eof, Too_much, Reads}
+use Rattle.age_core.specs.Reading.{IsDone, NoneDone, StandsBeforeDone, HasNoDone, Reading, Before_done, Invalid_data, Unexpected_eof, Too_much, Reads}
 use Rattle.age_core.proofs.Stanzas.{the_same_stanza as same_stanza}
 
 -- the spellings of a stanza and of those after it

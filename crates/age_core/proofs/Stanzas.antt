@@ -1,9 +1,8 @@
 -- One stanza at the front of a text: what is read spells it, and what spells it is read.
-use Rattle.std.proofs.Common.{◌≡◌, ◌≢◌, ℕ, zero, suc, ◌+◌, ◌*◌, ◌<◌, ◌≤◌, Bool, true, false, cond, eqb, List, [], ◌∷◌, ◌++◌, length, take, drop, get_or, map, Option, Some, None, refl, sym, ap, subst, ◌∙◌, append_assoc, ◌⊎◌, inl, inr, arith}
+use Rattle.std.proofs.Common.{◌≡◌, ◌≢◌, ℕ, ◌<◌, true, false, List, [], ◌∷◌, ◌++◌, length, take, drop, get_or, map, Option, Some, None, refl, sym, ap, subst, ◌∙◌, append_assoc, inl, inr, arith}
 use Rattle.std.specs.Prelude.{codes, remove}
 use Rattle.std.specs.Str.{bytes_eq}
 use Rattle.std.specs.List.{flat_map, AllByRecursion}
-use Rattle.std.proofs.lemmas.Bool.{eqb-true, and_parts}
 use Rattle.std.proofs.lemmas.List.{append-nil, length-append, take-append-drop}
 use Rattle.std.proofs.lemmas.Option.{none-some}
 use Rattle.std.proofs.lemmas.Slice.Eq.{bytes_eq-Decides}
@@ -14,7 +13,7 @@ use Rattle.base64.specs.declared.engine.general_purpose.GeneralPurpose.{GeneralP
 use Rattle.age_core.specs.Scan.{IsLineEngine, words_from, lines_from, stanza_from, stanza_behind, stanza_read}
 use Rattle.age_core.proofs.Cases.{chosen, some_parts, IsBytes-rest, IsBytes-append_right}
 use Rattle.age_core.proofs.Words.{joined, behind_space, SpellsWords, words_sound, words_complete}
-use Rattle.age_core.proofs.Lines.{SpellsLines, lines_sound, lines_complete}
+use Rattle.age_core.proofs.Lines.{lines_sound, lines_complete}
 
 -- what was read is the stanza, and what spells it
 pub record SpellsStanza (text : List ℕ) (s : Stanza) (rest : List ℕ) : Type 0 where

@@ -1,7 +1,6 @@
-use Rattle.std.proofs.Common.{◌≡◌, ◌≢◌, ℕ, ◌+◌, ◌-◌, ◌≤◌, ◌<◌, ◌++◌, ◌∷◌, [], List, length, map, get_or, take, drop, sym, ap, ◌∙◌, subst, refl, arith, Option, Some, None}
+use Rattle.std.proofs.Common.{◌≡◌, ◌++◌, ◌∷◌, [], map, sym, subst, arith}
 use Rattle.std.proofs.lemmas.List.{map_push}
-use Rattle.age_core.specs.Stanza.{stanza_of, IsBytes, IsStanza, spelling}
-use Rattle.age_core.specs.Scan.{stanza_read}
+use Rattle.age_core.specs.Stanza.{stanza_of, IsBytes, IsStanza}
 use Rattle.age_core.proofs.Cases.{IsBytes-append_right}
 use Rattle.age_core.proofs.Stanzas.{stanza_sound, none_begins, each-push, whole-push, shorter}
 use Rattle.age_core.proofs.format.stanzas_of.Goals as goal

@@ -1,6 +1,5 @@
-use Rattle.std.proofs.Common.{◌≡◌, ◌≢◌, ℕ, ◌+◌, ◌-◌, ◌≤◌, ◌<◌, ◌++◌, ◌∷◌, [], List, length, get_or, take, drop, sym, ap, ◌∙◌, refl, arith, Some, None}
+use Rattle.std.proofs.Common.{◌≡◌, ◌≢◌, ◌+◌, ◌-◌, length, take, drop, sym, ◌∙◌, arith}
 use Rattle.std.proofs.lemmas.List.{take_all, length-drop, length-take}
-use Rattle.age_core.specs.Scan.{lines_from}
 use Rattle.age_core.proofs.Steps.{lines_long, lines_more, lines_bad, lines_last, lines_next, lines_out, line_more}
 use Rattle.age_core.proofs.scan.body_at.Goals as goal
 

@@ -1,4 +1,4 @@
-use Rattle.std.proofs.Common.{◌≡◌, ◌++◌, List, ℕ, take, drop, ap, sym, rules, ◌∙◌}
+use Rattle.std.proofs.Common.{◌++◌, List, ℕ, drop, ap, sym, ◌∙◌}
 use Rattle.std.specs.Result.{result_ok}
 use Rattle.std.proofs.lemmas.List.{take-append-drop}
 use Rattle.base64.specs.GeneralPurpose.{decoded_of}

@@ -1,8 +1,7 @@
-use Rattle.std.proofs.Common.{◌≡◌, ℕ, ◌<◌, ◌∷◌, [], List, length, map, sym, ◌∙◌, refl, arith, Option, Some, None}
+use Rattle.std.proofs.Common.{◌≡◌, [], map, sym, ◌∙◌, refl, arith}
 use Rattle.std.specs.String.{string_bytes}
 use Rattle.std.proofs.lemmas.Bool.{eqb-true, eqb-false}
 use Rattle.std.proofs.lemmas.List.{nil_from_length}
-use Rattle.age_core.specs.Scan.{words_from, lines_from}
 use Rattle.age_core.proofs.Stanzas.{no_prefix, reads_no_words, reads_no_tag, reads_no_body, reads_stanza, split_first}
 use Rattle.age_core.proofs.scan.stanza_at.Goals as goal
 

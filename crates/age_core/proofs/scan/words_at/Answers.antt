@@ -1,7 +1,6 @@
-use Rattle.std.proofs.Common.{◌≡◌, ◌≢◌, ℕ, ◌+◌, ◌-◌, ◌++◌, ◌∷◌, [], List, length, map, get_or, take, drop, sym, ap, ◌∙◌, refl, arith, false, true, eqb, Option, Some, ◌≤◌, ◌<◌, Bool}
+use Rattle.std.proofs.Common.{◌≡◌, ℕ, ◌+◌, ◌-◌, ◌++◌, ◌∷◌, [], List, length, map, get_or, drop, sym, ap, ◌∙◌, arith, false, true, eqb}
 use Rattle.std.specs.String.{string_bytes}
-use Rattle.std.proofs.lemmas.Bool.{eqb-true, eqb-false, eq-eqb, ne_eqb}
-use Rattle.std.proofs.lemmas.List.{take_rest, map_push, take_all, length-drop}
+use Rattle.std.proofs.lemmas.List.{map_push, take_all, length-drop}
 use Rattle.age_core.specs.Scan.{words_from, is_visible}
 use Rattle.age_core.proofs.Words.{passes_visible}
 use Rattle.age_core.proofs.Steps.{words_visible, words_empty, words_space, words_feed, words_other, words_out}
