@@ -1,0 +1,12 @@
+-- bytes, and numbers in bytes
+pub mod Bytes
+-- when bytes are refused as a value
+pub mod Refusals
+-- how a call answers a meaning that is a value or none
+pub mod Answers
+-- LabeledExtract and LabeledExpand (RFC 9180, section 4)
+pub mod Labels
+-- the test KEM
+pub mod Mask
+-- the laws of the test KEM: proofs, and no definitions
+pub mod MaskLaws

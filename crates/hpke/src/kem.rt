@@ -1,0 +1,93 @@
+//! Key encapsulation mechanisms (RFC 9180, section 4).
+
+ghost use Rattle.std.specs.Prelude.{◌≡◌, ◌≤◌, ℕ, List, length, Option, None, Some, IfOk, IsSome, is_some};
+ghost use Rattle.std.specs.Option.{option_map};
+ghost use Rattle.rand_core.specs.Stream.{fill_bytes};
+ghost use Rattle.hpke.specs.Answers.{Answers, both};
+ghost use Rattle.hpke.specs.Bytes.{IsBytes};
+ghost use Rattle.hpke.specs.declared.error.HpkeError.TheVariants.{DecapError, EncapError};
+
+use crate::error::HpkeError;
+use crate::secret::{SecretSize, SharedSecret};
+use crate::serial::{Deserializable, Serializable};
+use rand_core::Rng;
+use std::alloc::{AllocError, Global};
+
+/// A key encapsulation mechanism. Contracts see a key by its bytes.
+pub trait Kem: SecretSize + Sized {
+    /// What a sender encapsulates to.
+    type PublicKey: Deserializable + Drop;
+
+    /// What a recipient decapsulates with.
+    type PrivateKey: Deserializable + Drop;
+
+    /// What a sender sends to the recipient.
+    type EncappedKey: Deserializable + Drop;
+
+    /// The algorithm's identifier.
+    const KEM_ID: u16;
+
+    ghost KEM_ID: { ℕ };
+
+    /// The public key of a private key.
+    ghost pk_of: { List ℕ → List ℕ };
+
+    /// The secret that a private key finds in an encapsulated key, with or without a sender's
+    /// public key, or none.
+    ghost decap_of: { List ℕ → Option (List ℕ) → List ℕ → Option (List ℕ) };
+
+    /// The secret for a public key and the encapsulated key, with or without a sender's pair of
+    /// keys, by 32 bytes that were drawn, or none.
+    ghost encap_of: { List ℕ → Option (List ℕ × List ℕ) → List ℕ → Option (List ℕ × List ℕ) };
+
+    /// The pair of private and public key that input keying material gives, or none.
+    ghost derive_of: { List ℕ → Option (List ℕ × List ℕ) };
+
+    /// The public key of a private key. The only error is want of memory.
+    fn sk_to_pk(alloc: Global, sk: &Self::PrivateKey) -> Result<Self::PublicKey, AllocError>
+        ensures { IfOk result (λ pk. Self.PublicKey.bytes pk ≡ pk_of (Self.PrivateKey.bytes sk.now)) };
+
+    /// The secret in an encapsulated key, with or without a sender's identity.
+    ///
+    /// `DecapError` comes exactly where `decap_of` is none, so never without a sender's identity.
+    fn decap(
+        alloc: Global,
+        sk_recip: &Self::PrivateKey,
+        pk_sender_id: Option<&Self::PublicKey>,
+        encapped_key: &Self::EncappedKey,
+    ) -> Result<SharedSecret<Self>, HpkeError>
+        ensures value { Answers (λ secret. secret) DecapError result (decap_of (Self.PrivateKey.bytes sk_recip.now)
+            (option_map (λ pk. Self.PublicKey.bytes pk.now) pk_sender_id.entry) (Self.EncappedKey.bytes encapped_key.now)) }
+        ensures without_sender { IsSome (decap_of (Self.PrivateKey.bytes sk_recip.now) None (Self.EncappedKey.bytes encapped_key.now)) };
+
+    /// A secret and the encapsulated key that brings it to the holder of a private key, with or
+    /// without a sender's identity.
+    ///
+    /// It draws 32 bytes by one call of `fill_bytes`, also before a refusal, and nothing else.
+    /// `EncapError` comes exactly where `encap_of` of these bytes is none.
+    fn encap<R: Rng>(
+        alloc: Global,
+        pk_recip: &Self::PublicKey,
+        sk_sender_id: Option<&Self::PrivateKey>,
+        pk_sender_id: Option<&Self::PublicKey>,
+        csprng: &mut R,
+    ) -> Result<(SharedSecret<Self>, Self::EncappedKey), HpkeError>
+        requires { is_some sk_sender_id ≡ is_some pk_sender_id }
+        ensures drawn { R.stream csprng.new ≡ (fill_bytes 32 (R.stream csprng.old)).1 }
+        ensures value { Answers (λ made. (made.0, Self.EncappedKey.bytes made.1)) EncapError result
+            (encap_of (Self.PublicKey.bytes pk_recip.now)
+                (both (option_map (λ sk. Self.PrivateKey.bytes sk.now) sk_sender_id.entry)
+                    (option_map (λ pk. Self.PublicKey.bytes pk.now) pk_sender_id.entry))
+                (fill_bytes 32 (R.stream csprng.old)).0) };
+
+    // A secret is of one length.
+    ghost decap_size: { (sk : List ℕ) (sender : Option (List ℕ)) (enc secret : List ℕ) → Self.PrivateKey.has_value sk
+        → Self.EncappedKey.has_value enc → decap_of sk sender enc ≡ Some secret → length secret ≡ Self.N_SECRET };
+
+    // Without a sender's identity there is always a secret.
+    ghost decap_without_sender: { (sk enc : List ℕ) → Self.PrivateKey.has_value sk → Self.EncappedKey.has_value enc
+        → IsSome (decap_of sk None enc) };
+
+    // Any bytes of the right length are an encapsulated key.
+    ghost encapped_key_any: { (enc : List ℕ) → IsBytes enc → length enc ≡ Self.EncappedKey.wire_size → Self.EncappedKey.has_value enc };
+}

@@ -1,0 +1,146 @@
+//! A KEM for tests, which has no secrecy.
+
+ghost use Rattle.std.specs.Prelude.{◌≡◌, length};
+ghost use Rattle.hpke.specs.Mask.{masked, mask_public, mask_decap, mask_encap, mask_derive};
+
+use crate::error::HpkeError;
+use crate::kem::Kem;
+use crate::secret::{SecretSize, SharedSecret};
+use crate::serial::{Deserializable, Serializable};
+use rand_core::Rng;
+use std::alloc::{AllocError, Global};
+use std::marker::Model;
+
+/// How many bytes a key, an encapsulated key and a secret have.
+const MASK_LEN: usize = 32;
+
+/// A public key, a private key or an encapsulated key of [`MaskKem`]: any 32 bytes.
+#[derive(Drop)]
+pub struct MaskKey {
+    bytes: [u8; MASK_LEN],
+}
+
+impl Model for MaskKey {
+    ghost use Rattle.std.specs.Prelude.{ℕ, List};
+
+    ghost Value = { List ℕ };
+
+    ghost view = { λ key. key.bytes };
+}
+
+impl Serializable for MaskKey {
+    ghost bytes = { λ key. key };
+
+    ghost wire_size = { 32 };
+
+    fn size() -> usize {
+        MASK_LEN
+    }
+
+    fn write_exact(&self, buffer: &mut [u8]) {
+        buffer.copy_from_slice(&self.bytes);
+    }
+}
+
+impl Deserializable for MaskKey {
+    ghost use Rattle.hpke.specs.Mask.{IsMaskKey};
+
+    ghost has_value = { IsMaskKey };
+
+    fn from_bytes(_alloc: Global, encoded: &[u8]) -> Result<MaskKey, HpkeError> {
+        if encoded.len() != MASK_LEN {
+            return Err(HpkeError::IncorrectInputLength(MASK_LEN, encoded.len()));
+        }
+        let mut bytes = [0; MASK_LEN];
+        bytes.copy_from_slice(encoded);
+        Ok(MaskKey { bytes })
+    }
+}
+
+/// A KEM for tests: the public key is the private key, what is drawn is the encapsulated key, and
+/// the secret is the key XOR the encapsulated key. It has no secrecy.
+///
+/// A sender's identity is refused: by `DecapError` and by `EncapError`.
+pub struct MaskKem;
+
+impl SecretSize for MaskKem {
+    const N_SECRET: usize = MASK_LEN;
+
+    ghost N_SECRET = { 32 };
+
+    ghost use Rattle.std.proofs.Common.{rules};
+
+    ghost secret_within = { Prim.search rules };
+}
+
+impl Kem for MaskKem {
+    type PublicKey = MaskKey;
+
+    type PrivateKey = MaskKey;
+
+    type EncappedKey = MaskKey;
+
+    const KEM_ID: u16 = 0xFF00;
+
+    ghost KEM_ID = { 0xFF00 };
+
+    ghost pk_of = { mask_public };
+
+    ghost decap_of = { mask_decap };
+
+    ghost encap_of = { mask_encap };
+
+    ghost derive_of = { mask_derive };
+
+    fn sk_to_pk(_alloc: Global, sk: &MaskKey) -> Result<MaskKey, AllocError> {
+        Ok(MaskKey { bytes: sk.bytes })
+    }
+
+    fn decap(
+        _alloc: Global,
+        sk_recip: &MaskKey,
+        pk_sender_id: Option<&MaskKey>,
+        encapped_key: &MaskKey,
+    ) -> Result<SharedSecret<MaskKem>, HpkeError> {
+        if pk_sender_id.is_some() {
+            return Err(HpkeError::DecapError);
+        }
+        Ok(SharedSecret::new(&mask(&sk_recip.bytes, &encapped_key.bytes)))
+    }
+
+    fn encap<R: Rng>(
+        _alloc: Global,
+        pk_recip: &MaskKey,
+        sk_sender_id: Option<&MaskKey>,
+        _pk_sender_id: Option<&MaskKey>,
+        csprng: &mut R,
+    ) -> Result<(SharedSecret<MaskKem>, MaskKey), HpkeError> {
+        let mut draw = [0; MASK_LEN];
+        csprng.fill_bytes(&mut draw);
+        if sk_sender_id.is_some() {
+            return Err(HpkeError::EncapError);
+        }
+        let secret = SharedSecret::new(&mask(&pk_recip.bytes, &draw));
+        Ok((secret, MaskKey { bytes: draw }))
+    }
+
+    ghost use Rattle.std.proofs.Common.{refl};
+    ghost use Rattle.hpke.specs.MaskLaws.{mask_decap-size};
+
+    ghost decap_size = { mask_decap-size };
+
+    ghost decap_without_sender = { λ _ _ _ _. refl };
+
+    ghost encapped_key_any = { λ _ bytes size. (size, bytes) };
+}
+
+/// Two keys, XORed place by place.
+fn mask(a: &[u8; MASK_LEN], b: &[u8; MASK_LEN]) -> [u8; MASK_LEN]
+    ensures { result ≡ masked a.now b.now }
+{
+    let mut c = [0; MASK_LEN];
+    for i in 0..MASK_LEN {
+        c[i] = a[i] ^ b[i];
+    }
+    c
+}
