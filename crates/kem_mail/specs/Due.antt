@@ -1,0 +1,48 @@
+-- What a run owes for its words and for the bytes that its source tells: a status and an output.
+use Rattle.std.specs.Prelude.{◌≡◌, ℕ, List, [], ◌∷◌, ◌++◌, codes, ◌⊎◌}
+use Rattle.kem_mail.specs.Command.{IsOpen}
+use Rattle.kem_mail.specs.Head.{IsHead}
+use Rattle.kem_mail.specs.Mail.{Opens}
+use Rattle.kem_mail.specs.Lines.{lines}
+
+-- the most bytes of a mail that are read
+abbrev pub mail_budget : ℕ
+mail_budget = 16777216
+
+-- how long an encapsulated key of the suite is
+abbrev pub key_size : ℕ
+key_size = 32
+
+-- a text begins with a head, and a mail follows that opens to these messages
+pub record HoldsMail (text : List ℕ) (messages : List (List ℕ)) : Type 0 where
+  pub seed : List ℕ
+  pub info : List ℕ
+  pub rest : List ℕ
+  pub head : IsHead text seed info rest
+  pub opens : Opens key_size rest mail_budget messages
+
+-- status 0: a mail was opened, and each message is a line
+pub record IsOpened (words : List (List ℕ)) (text : List ℕ) (status : ℕ) (output : List ℕ) : Type 0 where
+  pub command : IsOpen words
+  pub messages : List (List ℕ)
+  pub mail : HoldsMail text messages
+  pub status_is : status ≡ 0
+  pub output_is : output ≡ lines messages
+
+-- status 2: the words spell no command
+pub record IsNoCommand (words : List (List ℕ)) (status : ℕ) (output : List ℕ) : Type 0 where
+  pub command : IsOpen words → ⊥
+  pub status_is : status ≡ 2
+  pub output_is : output ≡ codes "! words" ++ 10 ∷ []
+
+-- status 3: the text doesn't begin with a head and a mail
+pub record IsNoMail (words : List (List ℕ)) (text : List ℕ) (status : ℕ) (output : List ℕ) : Type 0 where
+  pub command : IsOpen words
+  pub mail : (messages : List (List ℕ)) → HoldsMail text messages → ⊥
+  pub status_is : status ≡ 3
+  pub output_is : output ≡ codes "! NotMail" ++ 10 ∷ []
+
+-- what is owed
+abbrev pub Due : List (List ℕ) → List ℕ → ℕ → List ℕ → Type 0
+Due words text status output =
+    IsOpened words text status output ⊎ (IsNoCommand words status output ⊎ IsNoMail words text status output)

@@ -1,0 +1,34 @@
+-- What the private functions take from a source. No public clause cites it.
+use Rattle.std.specs.Prelude.{◌≡◌, ◌≢◌, ℕ, ◌<◌, ◌≤◌, List, [], ◌∷◌, ◌++◌, length, take, drop, Option, Some, None, Ok}
+use Rattle.std.specs.List.{AllByRecursion}
+use Rattle.hex.specs.Hex.{decode_of}
+
+-- no byte is a line feed
+abbrev pub NoFeed : List ℕ → Type 0
+NoFeed text = AllByRecursion (λ c. c ≢ 10) text
+
+-- the first byte was taken, or there was none
+abbrev pub TookByte : List ℕ → Option (List ℕ) → Option ℕ → Type 0
+TookByte text now None = (text ≡ []) × (now ≡ Some text)
+TookByte text now (Some b) = (rest : List ℕ) × (text ≡ b ∷ rest) × (now ≡ Some rest)
+
+-- the first line was taken, of at most so many bytes, or there is none
+abbrev pub TookLine : ℕ → List ℕ → Option (List ℕ) → Option (List ℕ) → Type 0
+TookLine limit text now None = (line rest : List ℕ) → length line ≤ limit → NoFeed line → text ≢ line ++ 10 ∷ rest
+TookLine limit text now (Some line) = (rest : List ℕ) × (text ≡ line ++ 10 ∷ rest) × (now ≡ Some rest) × NoFeed line × (length line ≤ limit)
+
+-- these bytes were taken, within the budget
+pub record TookFront (text : List ℕ) (now : Option (List ℕ)) (budget : ℕ) (bytes : List ℕ) : Type 0 where
+  pub front : bytes ≡ take (length bytes) text
+  pub rest : now ≡ Some (drop (length bytes) text)
+  pub within : length bytes ≤ budget
+
+-- 128 digits spell the seed, or the line is no such digits
+abbrev pub SpellsSeed : List ℕ → Option (List ℕ) → Type 0
+SpellsSeed line None = (seed : List ℕ) → length line ≡ 128 → decode_of line ≡ Ok seed → ⊥
+SpellsSeed line (Some seed) = (length line ≡ 128) × (decode_of line ≡ Ok seed)
+
+-- digits spell the info, or the line is no such digits
+abbrev pub SpellsInfo : List ℕ → Option (List ℕ) → Type 0
+SpellsInfo line None = (info : List ℕ) → decode_of line ≡ Ok info → ⊥
+SpellsInfo line (Some info) = decode_of line ≡ Ok info
