@@ -16,7 +16,8 @@ zero_padded n bytes = bytes ++ replicate (n - length bytes) 0
 
 -- K, the key as one block: a key that is longer than a block is hashed first (2, 3)
 abbrev pub key_block : (List ℕ → List ℕ) → ℕ → List ℕ → List ℕ
-key_block hash block_size key = zero_padded block_size (if nat_lt block_size (length key) then hash key else key)
+key_block hash block_size key =
+    zero_padded block_size (if nat_lt block_size (length key) then hash key else key)
 
 -- a block XOR the pad that repeats this byte (2, steps 2 and 5)
 abbrev pub masked : ℕ → List ℕ → List ℕ
@@ -25,4 +26,5 @@ masked pad block = map (λ byte. bit_xor byte pad) block
 -- HMAC of a text under a key: H(K XOR opad, H(K XOR ipad, text)) (2)
 unfoldable pub hmac : (List ℕ → List ℕ) → ℕ → List ℕ → List ℕ → List ℕ
 hmac hash block_size key text =
-    hash (masked outer_pad (key_block hash block_size key) ++ hash (masked inner_pad (key_block hash block_size key) ++ text))
+    let block = key_block hash block_size key in
+    hash (masked outer_pad block ++ hash (masked inner_pad block ++ text))

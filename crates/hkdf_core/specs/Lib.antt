@@ -2,7 +2,7 @@
 pub mod Hmac
 -- HKDF: Extract, the blocks T(i), Expand (RFC 5869)
 pub mod Hkdf
--- what the three streaming types have been fed
+-- what the two streaming types have been fed
 pub mod Fed
 -- that a SHA-256 digest is bytes
 pub mod Digests

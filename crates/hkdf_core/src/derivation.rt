@@ -1,9 +1,9 @@
 //! HKDF: a key derivation function that stands on HMAC (RFC 5869).
 
-ghost use Rattle.std.specs.Prelude.{◌≡◌, ℕ, ◌+◌, ◌-◌, ◌*◌, ◌<◌, ◌≤◌, ◌↔◌, List, [], ◌∷◌, ◌++◌, length, take, drop, IsErr, OnOk, OnErr};
-ghost use Rattle.std.specs.Int.{div_ceil};
+ghost use Rattle.std.specs.Prelude.{◌≡◌, ◌+◌, ◌-◌, ◌*◌, ◌<◌, ◌≤◌, ◌↔◌, ℕ, List, [], ◌∷◌, ◌++◌};
+ghost use Rattle.std.specs.Prelude.{length, take, drop, IsErr, OnOk, OnErr};
 ghost use Rattle.hkdf_core.specs.Hmac.{hmac, key_block};
-ghost use Rattle.hkdf_core.specs.Hkdf.{extract, expand, output_block};
+ghost use Rattle.hkdf_core.specs.Hkdf.{extract, expand};
 
 use crate::hashing::{DigestBytes, HkdfHash};
 use crate::key_block::KeyBlock;
@@ -81,7 +81,8 @@ impl<T: HkdfHash> Hkdf<T> {
     /// The expansion from the pseudorandom key that HKDF-Extract makes of the salt and the input
     /// keying material. The empty salt stands for no salt.
     pub fn new(salt: &[u8], ikm: &[u8]) -> Hkdf<T>
-        ensures { result ≡ key_block T.hash_of T.BLOCK_SIZE (extract T.hash_of T.BLOCK_SIZE salt.now ikm.now) }
+        ensures { result
+            ≡ key_block T.hash_of T.BLOCK_SIZE (extract T.hash_of T.BLOCK_SIZE salt.now ikm.now) }
     {
         let mut extraction = HkdfExtract::new(salt);
         extraction.input_ikm(ikm);
@@ -123,8 +124,8 @@ impl<T: HkdfHash> Hkdf<T> {
     ) -> Result<(), InvalidLength>
         ensures invalid_length { IsErr result ↔ (MAX_OUTPUT_BLOCKS * T.DIGEST_SIZE < length out.old) }
         ensures output { (prk : List ℕ) → self.now ≡ key_block T.hash_of T.BLOCK_SIZE prk
-            → OnOk result (out.new
-            ≡ expand T.hash_of T.BLOCK_SIZE prk (a.now ++ b.now ++ c.now ++ d.now ++ e.now) (length out.old)) }
+            → let info = a.now ++ b.now ++ c.now ++ d.now ++ e.now in
+            OnOk result (out.new ≡ expand T.hash_of T.BLOCK_SIZE prk info (length out.old)) }
         ensures refused { OnErr result (out.new ≡ out.old) }
     {
         if out.len() > MAX_OUTPUT_BLOCKS * T::DIGEST_SIZE {
@@ -196,7 +197,8 @@ impl JoinedInfo<'_> {
 // Writes a block into the output from `at` on, as far as it fits.
 fn write_at(out: &mut [u8], at: usize, block: &[u8])
     requires { at ≤ length out.old }
-    ensures { out.new ≡ take at out.old ++ take (length out.old - at) block.now ++ drop (at + length block.now) out.old }
+    ensures { out.new ≡ take at out.old ++ take (length out.old - at) block.now
+        ++ drop (at + length block.now) out.old }
 {
     let count = block.len().min(out.len() - at);
     out[at..at + count].copy_from_slice(&block[..count]);

@@ -1,6 +1,6 @@
 //! The hash functions that HMAC and HKDF stand on, and their digests.
 
-ghost use Rattle.std.specs.Prelude.{◌≡◌, ℕ, ◌+◌, ◌<◌, ◌≤◌, ◌⊎◌, List, [], ◌++◌, length, take, All};
+ghost use Rattle.std.specs.Prelude.{◌≡◌, ◌<◌, ◌≤◌, ◌⊎◌, ℕ, List, [], ◌++◌, length, All};
 ghost use Rattle.sha2.specs.Sha256.{sha256};
 ghost use Rattle.sha2.specs.Hashers.{Holds256};
 
@@ -77,7 +77,8 @@ pub trait HkdfHash: Sized + Drop {
 
     /// Feeds the next piece of the message.
     fn update(&mut self, piece: &[u8])
-        ensures { (message : List ℕ) → holds self.old message → holds self.new (message ++ piece.now) };
+        ensures { (message : List ℕ) → holds self.old message
+            → holds self.new (message ++ piece.now) };
 
     /// The digest of the pieces joined: DIGEST_SIZE bytes.
     fn finish(self) -> DigestBytes

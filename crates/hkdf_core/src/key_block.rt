@@ -1,6 +1,6 @@
 //! The key of HMAC as one block of its hash function (RFC 2104, section 2).
 
-ghost use Rattle.std.specs.Prelude.{◌≡◌, ℕ, ◌≤◌, ◌<◌, List, [], length, take};
+ghost use Rattle.std.specs.Prelude.{◌≡◌, ◌≤◌, List, ℕ, length, take};
 ghost use Rattle.hkdf_core.specs.Hmac.{key_block, masked, zero_padded};
 
 use crate::hashing::HkdfHash;
