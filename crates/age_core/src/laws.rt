@@ -2,7 +2,7 @@
 
 ghost use Rattle.std.specs.Prelude.{◌≡◌, ℕ, List, [], ◌∷◌, ◌++◌, codes, replicate};
 ghost use Rattle.age_core.specs.Stanza.{Stanza, IsStanza, spelling};
-ghost use Rattle.age_core.specs.Reading.{Reading, Reads};
+ghost use Rattle.age_core.specs.Reading.{HasNoDone, Reading, Reads, StandsBeforeDone};
 
 /// No spelling begins another: what two stanzas spell at the front of one text is one stanza.
 pub fn no_spelling_begins_another()
@@ -17,6 +17,15 @@ pub fn one_reading()
     ensures { (text : List ℕ) (budget : ℕ) (one other : Reading)
         → Reads text budget one → Reads text budget other → one ≡ other }
 {}
+
+/// The stanzas before a first `done` are one list, and a text that has them is no text without one.
+pub fn one_first_done()
+    ensures one { (text : List ℕ) (stanzas others : List Stanza) → StandsBeforeDone text stanzas
+        → StandsBeforeDone text others → stanzas ≡ others }
+    ensures or_none { (text rest : List ℕ) (stanzas : List Stanza) → StandsBeforeDone text stanzas
+        → HasNoDone text rest → ⊥ }
+{
+}
 
 /// Three stanzas and what spells them, worked by hand.
 pub fn worked_spellings()

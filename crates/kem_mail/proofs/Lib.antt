@@ -1,2 +1,7 @@
 pub mod Feeds
 pub mod Takes
+pub mod Heads
+pub mod Fronts
+pub mod Tags
+pub mod Opening
+pub mod Runs

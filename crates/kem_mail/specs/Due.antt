@@ -46,3 +46,7 @@ pub record IsNoMail (words : List (List ℕ)) (text : List ℕ) (status : ℕ) (
 abbrev pub Due : List (List ℕ) → List ℕ → ℕ → List ℕ → Type 0
 Due words text status output =
     IsOpened words text status output ⊎ (IsNoCommand words status output ⊎ IsNoMail words text status output)
+
+-- a status that says what is owed: a mail was opened, there is no command, or no mail
+abbrev pub IsAnswer : ℕ → Type 0
+IsAnswer status = (status ≡ 0) ⊎ ((status ≡ 2) ⊎ (status ≡ 3))

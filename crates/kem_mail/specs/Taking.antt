@@ -1,7 +1,12 @@
 -- What the private functions take from a source. No public clause cites it.
-use Rattle.std.specs.Prelude.{◌≡◌, ◌≢◌, ℕ, ◌<◌, ◌≤◌, List, [], ◌∷◌, ◌++◌, length, take, drop, Option, Some, None, Ok}
+use Rattle.std.specs.Prelude.{◌≡◌, ◌≢◌, ℕ, ◌<◌, ◌≤◌, List, [], ◌∷◌, ◌++◌, length, take, drop, codes, ◌⊎◌, Option, Some, None, Ok}
 use Rattle.std.specs.List.{AllByRecursion}
 use Rattle.hex.specs.Hex.{decode_of}
+use Rattle.kem_mail.specs.declared.error.MailError.{MailError}
+use Rattle.kem_mail.specs.declared.error.MailError.TheVariants.{NoMemory, ReadFault, NotMail}
+use Rattle.age_core.specs.Outside.{Rose, Gains, GainsPart}
+use Rattle.age_core.specs.Stanza.{Stanza}
+use Rattle.age_core.specs.Reading.{IsDone, NoneDone}
 
 -- no byte is a line feed
 abbrev pub NoFeed : List ℕ → Type 0
@@ -32,3 +37,24 @@ SpellsSeed line (Some seed) = (length line ≡ 128) × (decode_of line ≡ Ok se
 abbrev pub SpellsInfo : List ℕ → Option (List ℕ) → Type 0
 SpellsInfo line None = (info : List ℕ) → decode_of line ≡ Ok info → ⊥
 SpellsInfo line (Some info) = decode_of line ≡ Ok info
+
+-- the first stanza that ends a list stands at this place
+abbrev pub EndsAt : List Stanza → ℕ → Type 0
+EndsAt stanzas i = (last : Stanza) × (others : List Stanza) × (stanzas ≡ take i stanzas ++ last ∷ others) × NoneDone (take i stanzas) × IsDone last
+
+-- a list has one element and no other, or it isn't such a list
+abbrev pub IsOnly : List (List ℕ) → Option (List ℕ) → Type 0
+IsOnly xs None = (x : List ℕ) → xs ≢ x ∷ []
+IsOnly xs (Some x) = xs ≡ x ∷ []
+
+-- the line was written and the status is this one, or the sink failed and a part of the line was written
+abbrev pub IsTold : ℕ → ℕ → ℕ → ℕ → Option (List ℕ) → Option (List ℕ) → List ℕ → Type 0
+IsTold result status faults_before faults_now before now line =
+    ((result ≡ status) × Gains before now line) ⊎ ((result ≡ 5) × Rose faults_before faults_now × GainsPart before now line)
+
+-- what is answered and told for an error
+abbrev pub IsRefused : MailError → ℕ → ℕ → ℕ → Option (List ℕ) → Option (List ℕ) → Type 0
+IsRefused NoMemory result faults_before faults_now before now = (result ≡ 6) × Gains before now []
+IsRefused ReadFault result faults_before faults_now before now = (result ≡ 4) × Gains before now []
+IsRefused NotMail result faults_before faults_now before now =
+    IsTold result 3 faults_before faults_now before now (codes "! NotMail" ++ 10 ∷ [])

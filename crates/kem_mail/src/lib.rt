@@ -4,11 +4,11 @@
 mod error;
 mod head;
 mod list;
-//mod open;
-//mod run;
+mod open;
+mod run;
 mod taking;
 
 pub use error::MailError;
 pub use list::MessageList;
-//pub use open::open_with;
-//pub use run::mail_main;
+pub use open::open_with;
+pub use run::mail_main;
