@@ -1,0 +1,5 @@
+//! Tests that cross crates: whole runs of the program over memory.
+#![tactic(auto)]
+
+#[cfg(test)]
+mod tests;
