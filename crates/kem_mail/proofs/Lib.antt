@@ -5,3 +5,4 @@ pub mod Fronts
 pub mod Tags
 pub mod Opening
 pub mod Runs
+pub mod Dues

@@ -3,6 +3,7 @@
 
 mod error;
 mod head;
+pub mod laws;
 mod list;
 mod open;
 mod run;

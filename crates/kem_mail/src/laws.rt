@@ -1,0 +1,13 @@
+//! Laws of the definitions, each as the contract of a function that does nothing.
+
+ghost use Rattle.std.specs.Prelude.{◌≡◌, ℕ, List};
+ghost use Rattle.kem_mail.specs.Due.{Due};
+
+/// Nothing else is owed: no words and text have two due statuses, or two due outputs.
+pub fn one_due()
+    ensures status { (words : List (List ℕ)) (text : List ℕ) (one other : ℕ) (output another : List ℕ)
+        → Due words text one output → Due words text other another → one ≡ other }
+    ensures output { (words : List (List ℕ)) (text : List ℕ) (one other : ℕ) (output another : List ℕ)
+        → Due words text one output → Due words text other another → output ≡ another }
+{
+}
