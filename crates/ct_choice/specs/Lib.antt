@@ -3,5 +3,5 @@
 pub mod Truth
 -- differences of words
 pub mod Words
--- the order of `Ordering`, and the laws of `<`
+-- the laws of `<`
 pub mod Order

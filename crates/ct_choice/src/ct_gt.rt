@@ -1,6 +1,7 @@
 // `CtGt`: which of two values is greater.
 ghost use Rattle.std.specs.Prelude.{◌≡◌, Bool, false, true, nat_lt};
-ghost use Rattle.ct_choice.specs.Order.{rank, nat_lt-irreflexive, nat_lt-transitive};
+ghost use Rattle.std.specs.Ordering.{ordering_index};
+ghost use Rattle.ct_choice.specs.Order.{nat_lt-irreflexive, nat_lt-transitive};
 
 use crate::choices::Choice;
 use crate::ct_lt::CtLt;
@@ -8,19 +9,20 @@ use std::cmp::Ordering;
 
 /// Whether one value is greater than another.
 pub trait CtGt {
-    ghost is_above: { Self → Self → Bool };
+    // Which values are greater than which. For a type with `>` it is what `>` answers.
+    ghost ct_gt: { Self → Self → Bool };
 
     /// True where `self` is greater than `other`.
     fn ct_gt(&self, other: &Self) -> Choice
-        ensures { result ≡ is_above self.now other.now };
+        ensures { result ≡ ct_gt self.now other.now };
 
-    ghost irreflexive: { (a : Self) → is_above a a ≡ false };
+    ghost irreflexive: { (a : Self) → ct_gt a a ≡ false };
 
-    ghost transitive: { (a b c : Self) → is_above a b ≡ true → is_above b c ≡ true → is_above a c ≡ true };
+    ghost transitive: { (a b c : Self) → ct_gt a b ≡ true → ct_gt b c ≡ true → ct_gt a c ≡ true };
 }
 
 impl CtGt for u8 {
-    ghost is_above = { λ a b. nat_lt b a };
+    ghost ct_gt = { λ a b. nat_lt b a };
 
     ghost irreflexive = { nat_lt-irreflexive };
 
@@ -32,7 +34,7 @@ impl CtGt for u8 {
 }
 
 impl CtGt for u16 {
-    ghost is_above = { λ a b. nat_lt b a };
+    ghost ct_gt = { λ a b. nat_lt b a };
 
     ghost irreflexive = { nat_lt-irreflexive };
 
@@ -44,7 +46,7 @@ impl CtGt for u16 {
 }
 
 impl CtGt for u32 {
-    ghost is_above = { λ a b. nat_lt b a };
+    ghost ct_gt = { λ a b. nat_lt b a };
 
     ghost irreflexive = { nat_lt-irreflexive };
 
@@ -56,7 +58,7 @@ impl CtGt for u32 {
 }
 
 impl CtGt for u64 {
-    ghost is_above = { λ a b. nat_lt b a };
+    ghost ct_gt = { λ a b. nat_lt b a };
 
     ghost irreflexive = { nat_lt-irreflexive };
 
@@ -68,7 +70,7 @@ impl CtGt for u64 {
 }
 
 impl CtGt for u128 {
-    ghost is_above = { λ a b. nat_lt b a };
+    ghost ct_gt = { λ a b. nat_lt b a };
 
     ghost irreflexive = { nat_lt-irreflexive };
 
@@ -80,7 +82,7 @@ impl CtGt for u128 {
 }
 
 impl CtGt for usize {
-    ghost is_above = { λ a b. nat_lt b a };
+    ghost ct_gt = { λ a b. nat_lt b a };
 
     ghost irreflexive = { nat_lt-irreflexive };
 
@@ -92,11 +94,11 @@ impl CtGt for usize {
 }
 
 impl CtGt for Ordering {
-    ghost is_above = { λ a b. nat_lt (rank b) (rank a) };
+    ghost ct_gt = { λ a b. nat_lt (ordering_index b) (ordering_index a) };
 
-    ghost irreflexive = { λ a. nat_lt-irreflexive (rank a) };
+    ghost irreflexive = { λ a. nat_lt-irreflexive (ordering_index a) };
 
-    ghost transitive = { λ a b c p q. nat_lt-transitive (rank c) (rank b) (rank a) q p };
+    ghost transitive = { λ a b c p q. nat_lt-transitive (ordering_index c) (ordering_index b) (ordering_index a) q p };
 
     fn ct_gt(&self, other: &Self) -> Choice {
         other.ct_lt(self)

@@ -1,25 +1,27 @@
 // `CtLt`: which of two values is less.
 ghost use Rattle.std.specs.Prelude.{◌≡◌, Bool, false, true, nat_lt};
-ghost use Rattle.ct_choice.specs.Order.{rank, nat_lt-irreflexive, nat_lt-transitive};
+ghost use Rattle.std.specs.Ordering.{ordering_index};
+ghost use Rattle.ct_choice.specs.Order.{nat_lt-irreflexive, nat_lt-transitive};
 
 use crate::choices::Choice;
 use std::cmp::Ordering;
 
 /// Whether one value is less than another.
 pub trait CtLt {
-    ghost is_below: { Self → Self → Bool };
+    // Which values are less than which. For a type with `<` it is what `<` answers.
+    ghost ct_lt: { Self → Self → Bool };
 
     /// True where `self` is less than `other`.
     fn ct_lt(&self, other: &Self) -> Choice
-        ensures { result ≡ is_below self.now other.now };
+        ensures { result ≡ ct_lt self.now other.now };
 
-    ghost irreflexive: { (a : Self) → is_below a a ≡ false };
+    ghost irreflexive: { (a : Self) → ct_lt a a ≡ false };
 
-    ghost transitive: { (a b c : Self) → is_below a b ≡ true → is_below b c ≡ true → is_below a c ≡ true };
+    ghost transitive: { (a b c : Self) → ct_lt a b ≡ true → ct_lt b c ≡ true → ct_lt a c ≡ true };
 }
 
 impl CtLt for u8 {
-    ghost is_below = { nat_lt };
+    ghost ct_lt = { nat_lt };
 
     ghost irreflexive = { nat_lt-irreflexive };
 
@@ -31,7 +33,7 @@ impl CtLt for u8 {
 }
 
 impl CtLt for u16 {
-    ghost is_below = { nat_lt };
+    ghost ct_lt = { nat_lt };
 
     ghost irreflexive = { nat_lt-irreflexive };
 
@@ -43,7 +45,7 @@ impl CtLt for u16 {
 }
 
 impl CtLt for u32 {
-    ghost is_below = { nat_lt };
+    ghost ct_lt = { nat_lt };
 
     ghost irreflexive = { nat_lt-irreflexive };
 
@@ -55,7 +57,7 @@ impl CtLt for u32 {
 }
 
 impl CtLt for u64 {
-    ghost is_below = { nat_lt };
+    ghost ct_lt = { nat_lt };
 
     ghost irreflexive = { nat_lt-irreflexive };
 
@@ -67,7 +69,7 @@ impl CtLt for u64 {
 }
 
 impl CtLt for u128 {
-    ghost is_below = { nat_lt };
+    ghost ct_lt = { nat_lt };
 
     ghost irreflexive = { nat_lt-irreflexive };
 
@@ -79,7 +81,7 @@ impl CtLt for u128 {
 }
 
 impl CtLt for usize {
-    ghost is_below = { nat_lt };
+    ghost ct_lt = { nat_lt };
 
     ghost irreflexive = { nat_lt-irreflexive };
 
@@ -91,20 +93,20 @@ impl CtLt for usize {
 }
 
 impl CtLt for Ordering {
-    ghost is_below = { λ a b. nat_lt (rank a) (rank b) };
+    ghost ct_lt = { λ a b. nat_lt (ordering_index a) (ordering_index b) };
 
-    ghost irreflexive = { λ a. nat_lt-irreflexive (rank a) };
+    ghost irreflexive = { λ a. nat_lt-irreflexive (ordering_index a) };
 
-    ghost transitive = { λ a b c. nat_lt-transitive (rank a) (rank b) (rank c) };
+    ghost transitive = { λ a b c. nat_lt-transitive (ordering_index a) (ordering_index b) (ordering_index c) };
 
     fn ct_lt(&self, other: &Self) -> Choice {
-        Choice::from_u8_lt(rank_of(*self), rank_of(*other))
+        Choice::from_u8_lt(place(*self), place(*other))
     }
 }
 
 // -1, 0 and 1 are moved to 0, 1 and 2.
-pub(crate) fn rank_of(order: Ordering) -> u8
-    ensures { result ≡ rank order }
+pub(crate) fn place(order: Ordering) -> u8
+    ensures { result ≡ ordering_index order }
 {
     (order as i8 + 1) as u8
 }

@@ -8,6 +8,7 @@ use crate::choices::Choice;
 /// Negation where a choice is true. That of an integer wraps: the negation of the least signed
 /// number is that number.
 pub trait CtNeg: Sized + Drop {
+    // What `-self` is.
     ghost negation: { Self → Self };
 
     /// `-self` where `choice` is true, else `self`.
@@ -15,7 +16,7 @@ pub trait CtNeg: Sized + Drop {
         ensures { result ≡ (if choice then negation self.now else self.now) };
 
     /// Puts `-self` in the place of `self` where `choice` is true.
-    fn ct_neg_assign(&mut self, choice: Choice)
+    final fn ct_neg_assign(&mut self, choice: Choice)
         ensures { self.new ≡ (if choice then negation self.old else self.old) }
     {
         *self = self.ct_neg(choice);
