@@ -2,3 +2,5 @@
 pub mod Lists
 -- the step of a search
 pub mod Searching
+-- orderings by their places
+pub mod Orderings

@@ -1,5 +1,5 @@
 -- A loop over two lists, place by place: an assignment or a selection by a choice, and a comparison.
-use Rattle.std.proofs.Common.{◌≡◌, ℕ, zero, suc, ◌+◌, ◌<◌, ◌≤◌, Bool, true, false, if◌then◌else◌, ◌&&◌, nat_eq, List, [], ◌∷◌, ◌++◌, length, get_or, take, drop, refl, sym, ap, ap₂, ◌∙◌, ◌⊎◌, inl, inr, arith, add-one, min}
+use Rattle.std.proofs.Common.{◌≡◌, ℕ, zero, suc, ◌+◌, ◌<◌, Bool, true, false, if◌then◌else◌, ◌&&◌, nat_eq, List, [], ◌∷◌, ◌++◌, length, get_or, take, drop, refl, sym, ap, ap₂, ◌∙◌, inl, inr, arith, add-one, min}
 use Rattle.std.proofs.Math.ListN.{set}
 use Rattle.std.proofs.Math.Seq.{take-length, drop-length}
 use Rattle.std.proofs.Math.Bool.{and_assoc, and-true}
@@ -49,8 +49,8 @@ module _ {X : Type 0} (E : X → X → Bool) where
   pointwise-take-suc (a ∷ xs) [] i x y p q r s = absurd (omega arith)
   pointwise-take-suc (a ∷ xs) (b ∷ ys) zero x y p q r s = and-true (E a b) ∙ ap₂ E (sym r) (sym s)
   pointwise-take-suc (a ∷ xs) (b ∷ ys) (suc i) x y p q r s =
-    ap (λ t. E a b && t) (pointwise-take-suc xs ys i x y (omega arith) (omega arith) r s)
-    ∙ sym (and_assoc (E a b) (pointwise E (take i xs) (take i ys)) (E x y))
+      ap (λ t. E a b && t) (pointwise-take-suc xs ys i x y (omega arith) (omega arith) r s)
+      ∙ sym (and_assoc (E a b) (pointwise E (take i xs) (take i ys)) (E x y))
 
   pub pointwise-take-more : (lengths equal answer next : Bool) (xs ys : List X) (i : ℕ) (x y : X) → i < length xs → i < length ys → x ≡ get_or xs i x → y ≡ get_or ys i y
       → equal ≡ (lengths && pointwise E (take i xs) (take i ys)) → answer ≡ E x y → next ≡ (equal && answer)
@@ -62,10 +62,10 @@ module _ {X : Type 0} (E : X → X → Bool) where
   -- the lengths and the places of the shorter list have been compared
   pub pointwise-take-min : (xs ys : List X) → (nat_eq (length xs) (length ys) && pointwise E (take (min (length xs) (length ys)) xs) (take (min (length xs) (length ys)) ys)) ≡ pointwise E xs ys
   pointwise-take-min xs ys = elim (cases_eq (length xs) (length ys)) [
-      inl e ↦
+    | inl e ↦
         let whole_xs : take (min (length xs) (length ys)) xs ≡ xs = ap (λ n. take n xs) (omega arith) ∙ take-length xs in
         let whole_ys : take (min (length xs) (length ys)) ys ≡ ys = ap (λ n. take n ys) (omega arith) ∙ take-length ys in
         ap₂ ◌&&◌ (eq-eqb (length xs) (length ys) e) (ap₂ (pointwise E) whole_xs whole_ys)
-      | inr e ↦ ap (λ b. b && pointwise E (take (min (length xs) (length ys)) xs) (take (min (length xs) (length ys)) ys)) (ne_eqb (length xs) (length ys) e)
+    | inr e ↦ ap (λ b. b && pointwise E (take (min (length xs) (length ys)) xs) (take (min (length xs) (length ys)) ys)) (ne_eqb (length xs) (length ys) e)
         ∙ sym (false_from_ne_true (pointwise E xs ys) (λ h. e (pointwise_long E xs ys h)))
-    ]
+  ]

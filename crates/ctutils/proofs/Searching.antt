@@ -1,6 +1,6 @@
 -- The step of a search that keeps what it found in an option.
-use Rattle.std.proofs.Common.{◌≡◌, ℕ, zero, suc, ◌+◌, ◌<◌, Bool, true, false, not, ◌&&◌, if◌then◌else◌, List, [], ◌∷◌, ◌++◌, length, get_or, take, refl, sym, ap, ◌∙◌}
-use Rattle.std.specs.Prelude.{Option, Some, None, find}
+use Rattle.std.proofs.Common.{◌≡◌, ℕ, ◌+◌, ◌<◌, Bool, true, false, not, ◌&&◌, if◌then◌else◌, List, [], ◌∷◌, ◌++◌, length, get_or, take, refl, sym, ap, ◌∙◌}
+use Rattle.std.specs.Prelude.{Some, None, find}
 use Rattle.std.specs.Bool.{OnFalse}
 use Rattle.std.specs.Option.{option_or}
 use Rattle.std.proofs.lemmas.List.{take_more}
@@ -17,7 +17,7 @@ OnFalse-step D false found next x h e = rw e h
 -- an item is inserted where none was found
 into_option-inserted : {X : Type 0} (answer is_some : Bool) (value x : X)
     → into_option (if answer && not is_some then some_of x else record { value = value; is_some = is_some })
-      ≡ option_or (if is_some then Some value else None) (if answer then Some x else None)
+    ≡ option_or (if is_some then Some value else None) (if answer then Some x else None)
 into_option-inserted true true value x = refl
 into_option-inserted true false value x = refl
 into_option-inserted false true value x = refl

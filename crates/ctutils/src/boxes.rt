@@ -22,7 +22,12 @@ pub fn box_ct_eq<T: CtEq>(a: &Box<T>, b: &Box<T>) -> Choice
 }
 
 /// A new box with the value in `a` for false and that in `b` for true.
-pub fn box_ct_select<T: CtSelect + Copy>(alloc: Global, a: &Box<T>, b: &Box<T>, choice: Choice) -> Result<Box<T>, AllocError>
+pub fn box_ct_select<T: CtSelect + Copy>(
+    alloc: Global,
+    a: &Box<T>,
+    b: &Box<T>,
+    choice: Choice,
+) -> Result<Box<T>, AllocError>
     ensures { IfOk result (λ selected. selected.value ≡ (if choice then b.now.value else a.now.value)) }
 {
     Ok(Box::new(alloc, (**a).ct_select(&**b, choice))?)

@@ -297,7 +297,7 @@ impl<T> CtOption<T> {
         ensures is_some { result.is_some ≡ (self.is_some || optb.is_some) }
     {
         CtOption {
-            value: self.value.ct_select(&optb.value, self.is_none()),
+            value: self.value_or_that_of(&optb),
             is_some: self.is_some.or(optb.is_some),
         }
     }
@@ -345,7 +345,7 @@ impl<T> CtOption<T> {
         ensures is_some { result.is_some ≡ xor self.is_some optb.is_some }
     {
         CtOption {
-            value: self.value.ct_select(&optb.value, self.is_none()),
+            value: self.value_or_that_of(&optb),
             is_some: self.is_some.xor(optb.is_some),
         }
     }
@@ -442,6 +442,14 @@ fn cloned_value<T: Clone>(value: &T) -> T
     match value.clone() {
         Ok(clone) => clone,
         Err(_) => unreachable!(),
+    }
+}
+
+impl<T: CtSelect> CtOption<T> {
+    fn value_or_that_of(&self, optb: &CtOption<T>) -> T
+        ensures { result ≡ (if self.now.is_some then self.now.value else optb.now.value) }
+    {
+        self.value.ct_select(&optb.value, self.is_none())
     }
 }
 

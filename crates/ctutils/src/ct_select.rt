@@ -1,8 +1,12 @@
 // `CtSelect`: one of two values, by a choice.
 ghost use Rattle.std.specs.Prelude.{◌≡◌, if◌then◌else◌};
+ghost use Rattle.std.specs.Ordering.{ordering_index};
 
 use ct_choice::Choice;
 use std::cmp::Ordering;
+
+// The orderings, each at its place.
+const ORDERINGS: [Ordering; 3] = [Ordering::Less, Ordering::Equal, Ordering::Greater];
 
 /// Selection of one of two values.
 pub trait CtSelect: Sized + Drop {
@@ -135,6 +139,14 @@ impl CtSelect for Choice {
 
 impl CtSelect for Ordering {
     fn ct_select(&self, other: &Self, choice: Choice) -> Self {
-        (*self as i8).ct_select(&(*other as i8), choice).cmp(&0)
+        let place = place_of(*self).ct_select(&place_of(*other), choice);
+        ORDERINGS[place as usize]
     }
+}
+
+// -1, 0 and 1 are moved to 0, 1 and 2.
+fn place_of(order: Ordering) -> u8
+    ensures { result ≡ ordering_index order }
+{
+    (order as i8 + 1) as u8
 }

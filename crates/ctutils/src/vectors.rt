@@ -42,7 +42,12 @@ pub fn vec_ct_eq_slice<T: CtEqSlice>(a: &Vec<T>, b: &[T]) -> Choice
 /// A new vector with the elements of `a` for false and those of `b` for true.
 ///
 /// The two have one length, which a caller tests by `len`.
-pub fn vec_ct_select<T: CtAssignSlice + Copy>(alloc: Global, a: &Vec<T>, b: &Vec<T>, choice: Choice) -> Result<Vec<T>, AllocError>
+pub fn vec_ct_select<T: CtAssignSlice + Copy>(
+    alloc: Global,
+    a: &Vec<T>,
+    b: &Vec<T>,
+    choice: Choice,
+) -> Result<Vec<T>, AllocError>
     requires { vec_len a.now ≡ vec_len b.now }
     ensures { IfOk result (λ selected. selected.items ≡ (if choice then b.now.items else a.now.items)) }
 {
