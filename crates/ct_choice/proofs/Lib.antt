@@ -1,0 +1,2 @@
+-- Lemmas on words of any width.
+pub mod Words

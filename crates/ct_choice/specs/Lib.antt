@@ -1,0 +1,7 @@
+-- What the calls compute, in reading order.
+-- truth values, and what they are as bits and masks
+pub mod Truth
+-- differences of words
+pub mod Words
+-- the laws of `<`
+pub mod Order

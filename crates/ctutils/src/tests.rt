@@ -1,0 +1,221 @@
+// Each call at concrete types, over the edges of each width, and the worked searches and options.
+use crate::laws::{ct_eq_agrees, ct_eq_agrees_at_arrays};
+use crate::{
+    Choice, CtAssign, CtAssignSlice, CtEq, CtEqSlice, CtOption, CtSelect, CtSelectArray,
+    box_ct_assign, box_ct_eq, box_ct_select, ct_find, ct_lookup, vec_ct_assign,
+    vec_ct_assign_slice, vec_ct_eq, vec_ct_eq_slice, vec_ct_select,
+};
+use std::cmp::Ordering;
+use std::process::Abort;
+use std::test::Fail;
+
+const NO: Choice = Choice::FALSE;
+
+const YES: Choice = Choice::TRUE;
+
+fn is_same<T: CtEq>(a: &T, b: &T) -> bool {
+    a.ct_eq(b).to_bool() && !a.ct_ne(b).to_bool()
+}
+
+fn five_if(is_some: Choice) -> CtOption<u8> {
+    CtOption::new(5, is_some)
+}
+
+// What each trait says of two different values.
+fn tells_apart<T: CtAssign + CtEq + CtSelect + Copy>(rt: &impl Abort, a: T, b: T) {
+    assert!(rt; is_same(&a, &a) && !a.ct_eq(&b).to_bool() && a.ct_ne(&b).to_bool());
+    assert!(rt; is_same(&a.ct_select(&b, NO), &a) && is_same(&a.ct_select(&b, YES), &b));
+    let (mut x, mut y) = (a, b);
+    x.ct_swap(&mut y, NO);
+    assert!(rt; is_same(&x, &a) && is_same(&y, &b));
+    x.ct_swap(&mut y, YES);
+    assert!(rt; is_same(&x, &b) && is_same(&y, &a));
+    x.ct_assign(&a, NO);
+    assert!(rt; is_same(&x, &b));
+    x.ct_assign(&a, YES);
+    assert!(rt; is_same(&x, &a));
+}
+
+#[test]
+fn values(rt: HostRuntime) {
+    tells_apart(&rt, 0u8, u8::MAX);
+    tells_apart(&rt, 1u16, 0x8000);
+    tells_apart(&rt, 0u32, u32::MAX);
+    tells_apart(&rt, 1u64, 1 << 63);
+    tells_apart(&rt, 0u128, u128::MAX);
+    tells_apart(&rt, 0usize, usize::MAX);
+    tells_apart(&rt, -1i8, i8::MIN);
+    tells_apart(&rt, 0i16, i16::MIN);
+    tells_apart(&rt, -1i32, 1);
+    tells_apart(&rt, i64::MIN, i64::MAX);
+    tells_apart(&rt, -1i128, 0);
+    tells_apart(&rt, 0isize, -1);
+    tells_apart(&rt, NO, YES);
+    tells_apart(&rt, Ordering::Less, Ordering::Greater);
+    tells_apart(&rt, [1u8, 2, 3], [1, 2, 4]);
+    tells_apart(&rt, [[1i8], [2]], [[1], [3]]);
+    tells_apart(&rt, CtOption::new(1u8, NO), CtOption::some(1));
+    ct_eq_agrees();
+}
+
+#[test]
+fn slices_and_arrays(rt: HostRuntime) {
+    let (a, b) = ([1u32, 2, 3], [1u32, 5, 3]);
+    assert!(rt; u32::ct_eq_slice(&a, &a).to_bool() && u32::ct_ne_slice(&a, &b).to_bool());
+    assert!(rt; u32::ct_ne_slice(&a, &a[..2]).to_bool() && u32::ct_eq_slice(&[], &[]).to_bool());
+    let mut c = a;
+    u32::ct_assign_slice(&mut c, &b, NO);
+    assert_eq!(rt; c, a);
+    u32::ct_assign_slice(&mut c, &b, YES);
+    assert_eq!(rt; c, b);
+    assert_eq!(rt; u32::ct_select_array(&a, &b, NO), a);
+    assert_eq!(rt; u32::ct_select_array(&a, &b, YES), b);
+    ct_eq_agrees_at_arrays(&a, &b);
+}
+
+#[test]
+fn boxes_and_vectors(rt: HostRuntime) -> Result<(), Fail> {
+    let (one, two) = (Box::new(rt.alloc(), 1u8)?, Box::new(rt.alloc(), 2u8)?);
+    let mut taken = box_ct_select(rt.alloc(), &one, &two, YES)?;
+    assert_eq!(rt; *taken, 2);
+    box_ct_assign(&mut taken, &one, YES);
+    assert!(rt; box_ct_eq(&taken, &one).to_bool() && !box_ct_eq(&taken, &two).to_bool());
+    let (a, b) = (vec![in rt.alloc(); 1u8, 2]?, vec![in rt.alloc(); 3u8, 4]?);
+    let mut v = vec_ct_select(rt.alloc(), &a, &b, NO)?;
+    assert_eq!(rt; v.as_slice(), [1, 2].as_slice());
+    assert!(rt; vec_ct_eq(&v, &a).to_bool() && !vec_ct_eq(&v, &b).to_bool());
+    assert_eq!(rt; (v.len(), b.len()), (2, 2));
+    vec_ct_assign(&mut v, &b, YES);
+    assert!(rt; vec_ct_eq_slice(&v, &[3, 4]).to_bool());
+    assert_eq!(rt; v.len(), 2);
+    vec_ct_assign_slice(&mut v, &[9, 9], NO);
+    assert_eq!(rt; v.as_slice(), [3, 4].as_slice());
+    let c = vec![in rt.alloc(); 1u8, 2, 3]?;
+    assert!(rt; !vec_ct_eq_slice(&c, &[1, 2]).to_bool());
+    Ok(())
+}
+
+#[test]
+fn searches(rt: HostRuntime) {
+    let items = [1u8, 2, 3];
+    assert_eq!(rt; ct_lookup(&items, 2u32).into_option(), Some(3));
+    assert_eq!(rt; ct_lookup(&items, 3u32).into_option(), None);
+    assert_eq!(rt; ct_lookup(&items, 0u8).into_option(), Some(1));
+    assert_eq!(rt; ct_lookup(&items, 1u16).into_option(), Some(2));
+    assert_eq!(rt; ct_lookup(&items, 1u64 << 32).into_option(), None);
+    assert_eq!(rt; ct_lookup(&items, 1u128).into_option(), Some(2));
+    assert_eq!(rt; ct_lookup(&items, usize::MAX).into_option(), None);
+    let even_and_not_zero = |x: &u8| Choice::from_u8_lsb(*x).not() & Choice::from_u8_nz(*x);
+    assert_eq!(rt;
+        ct_find(&[0, 0, 0, 1, 2, 3], even_and_not_zero).into_option(),
+        Some(2)
+    );
+    assert_eq!(rt; ct_find(&[0, 1, 3], even_and_not_zero).into_option(), None);
+}
+
+#[test]
+fn options(rt: HostRuntime) {
+    for (is_some, some) in [(NO, None), (YES, Some(5u8))] {
+        let option = five_if(is_some);
+        assert_eq!(rt; option.is_some().to_bool(), some.is_some());
+        assert_eq!(rt; option.is_none().to_bool(), some.is_none());
+        assert_eq!(rt; *option.as_inner_unchecked(), 5);
+        assert_eq!(rt; option.to_inner_unchecked(), 5);
+        assert_eq!(rt; Option::<u8>::from(option), some);
+        assert_eq!(rt; option.into_option_copied(), some);
+        assert_eq!(rt; option.ok_or(1u8), some.ok_or(1));
+        assert_eq!(rt; option.unwrap_or(1), some.unwrap_or(1));
+        assert_eq!(rt; option.unwrap_or_default(), some.unwrap_or(0));
+    }
+    assert!(rt; is_same(&CtOption::new(1u8, NO), &CtOption::new(2, NO)));
+    assert!(rt; is_same(&CtOption::<u8>::none(), &CtOption::default()));
+}
+
+#[test]
+fn joined_options(rt: HostRuntime) {
+    for (is_some, some) in [(NO, None), (YES, Some(5u8))] {
+        assert_eq!(rt;
+            five_if(is_some).and(CtOption::some(6i8)).into_option(),
+            some.and(Some(6))
+        );
+        assert_eq!(rt;
+            five_if(is_some).or(CtOption::some(6)).into_option(),
+            some.or(Some(6))
+        );
+        assert_eq!(rt;
+            five_if(is_some).xor(CtOption::some(6)).into_option(),
+            some.xor(Some(6))
+        );
+        assert_eq!(rt;
+            five_if(is_some).zip(CtOption::some(6i8)).into_option(),
+            some.zip(Some(6))
+        );
+        assert_eq!(rt; five_if(is_some).filter_by(YES).into_option(), some);
+        assert_eq!(rt; five_if(is_some).filter_by(NO).into_option(), None);
+    }
+}
+
+#[test]
+fn some_options(rt: HostRuntime) {
+    let five = CtOption::some(5u8);
+    assert_eq!(rt; (five.expect(""), five.expect_copied("")), (5, 5));
+    assert_eq!(rt; (*five.expect_ref(""), five.unwrap()), (5, 5));
+    let mut option = CtOption::new(7u8, NO);
+    option.insert_if(&8, NO);
+    assert_eq!(rt; option.into_option(), None);
+    option.insert_if(&8, YES);
+    assert_eq!(rt; option.into_option(), Some(8));
+    *option.insert(9) = 10;
+    assert_eq!(rt; option.into_option(), Some(10));
+}
+
+#[test]
+fn options_of_references(rt: HostRuntime) {
+    let mut option = CtOption::some(3u8);
+    *option.as_mut().unwrap() = 4;
+    assert_eq!(rt; option.as_ref().copied().into_option(), Some(4));
+    assert_eq!(rt; option.as_ref().cloned().into_option(), Some(4));
+    assert_eq!(rt; option.as_mut().copied().into_option(), Some(4));
+    assert_eq!(rt; option.as_mut().cloned().into_option(), Some(4));
+    let mut number = 6u8;
+    let mut lent = CtOption::some(&mut number);
+    assert_eq!(rt; *lent.as_deref().unwrap(), 6);
+    *lent.as_deref_mut().unwrap() = 7;
+    assert_eq!(rt; *lent.value, 7);
+}
+
+// Each closure is called once, on a none too, with the hidden value.
+#[test]
+fn closures(rt: HostRuntime) {
+    let mut seen = 0u8;
+    let mapped = CtOption::new(7u8, NO).map(|x| {
+        seen ^= x;
+        x
+    });
+    assert_eq!(rt; (mapped.into_option(), seen), (None, 7));
+    let chosen = CtOption::new(8u8, NO).and_then(|x| {
+        seen ^= x;
+        CtOption::some(x)
+    });
+    assert_eq!(rt; (chosen.into_option(), seen), (None, 15));
+    let filtered = CtOption::new(16u8, NO).filter(|x| {
+        seen ^= *x;
+        YES
+    });
+    assert_eq!(rt; (filtered.into_option(), seen), (None, 31));
+    let result = CtOption::some(1u8).ok_or_else(|| {
+        seen ^= 32;
+        2u8
+    });
+    assert_eq!(rt; (result, seen), (Ok(1), 63));
+}
+
+#[test]
+fn answers_of_closures(rt: HostRuntime) {
+    for (is_some, some) in [(NO, None), (YES, Some(5u8))] {
+        assert_eq!(rt; five_if(is_some).map_or(0, |x| x), some.unwrap_or(0));
+        assert_eq!(rt; five_if(is_some).map_or_default(|x| x), some.unwrap_or(0));
+        let zipped = five_if(is_some).zip_with(CtOption::some(1u8), |x, y| x ^ y);
+        assert_eq!(rt; zipped.into_option(), some.map(|x| x ^ 1));
+    }
+}
