@@ -1,0 +1,4 @@
+-- multiplication in a field of binary polynomials
+pub mod FieldMul
+-- the block cipher and its key schedule
+pub mod Aes

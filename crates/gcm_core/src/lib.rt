@@ -1,0 +1,4 @@
+// AES-256-GCM.
+#![tactic(auto)]
+
+mod aes;
