@@ -1,3 +1,5 @@
+pub mod Fields
 pub mod Bytes
 pub mod States
 pub mod Schedule
+pub mod Hash

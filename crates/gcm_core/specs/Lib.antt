@@ -2,3 +2,7 @@
 pub mod FieldMul
 -- the block cipher and its key schedule
 pub mod Aes
+-- the hash over whole blocks
+pub mod Ghash
+-- sealing and opening
+pub mod Gcm
