@@ -3,3 +3,5 @@ pub mod Bytes
 pub mod States
 pub mod Schedule
 pub mod Hash
+pub mod Stream
+pub mod Sealing

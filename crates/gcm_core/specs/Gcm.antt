@@ -42,21 +42,33 @@ abbrev pub fits_limits : List ℕ → List ℕ → Bool
 fits_limits aad text = nat_le (length text) (2 ^ 36 - 32) && nat_le (length aad) (2 ^ 60)
 
 -- GCM-AE: the ciphertext and then its tag, or none past the limits (7.1)
-unfoldable pub seal_of : List ℕ → List ℕ → List ℕ → List ℕ → Option (List ℕ)
-seal_of key nonce aad text =
-    let c = gctr (aes key) (inc32 (j0 nonce)) text in
-    if fits_limits aad text then Some (c ++ tag_of (aes key) nonce aad c) else None
+unfoldable pub gcm_ae : (List ℕ → List ℕ) → List ℕ → List ℕ → List ℕ → Option (List ℕ)
+gcm_ae ciph nonce aad text =
+    let c = gctr ciph (inc32 (j0 nonce)) text in
+    if fits_limits aad text then Some (c ++ tag_of ciph nonce aad c) else None
 
--- what stands before the tag
+-- what stands before the tag of a sealed text, and the tag
 abbrev pub ciphertext_of : List ℕ → List ℕ
 ciphertext_of sealed = take (length sealed - 16) sealed
 
 abbrev pub sealed_tag : List ℕ → List ℕ
 sealed_tag sealed = drop (length sealed - 16) sealed
 
--- GCM-AD: the text, or none where a length passes its limit or the tag is another (7.2)
-unfoldable pub open_of : List ℕ → List ℕ → List ℕ → List ℕ → Option (List ℕ)
-open_of key nonce aad sealed =
-    let c = ciphertext_of sealed in
-    if nat_le 16 (length sealed) && fits_limits aad c && bytes_eq (sealed_tag sealed) (tag_of (aes key) nonce aad c)
-    then Some (gctr (aes key) (inc32 (j0 nonce)) c) else None
+-- a sealed text has a tag, keeps the limits, and its tag is that of its ciphertext
+abbrev pub is_authentic : (List ℕ → List ℕ) → List ℕ → List ℕ → List ℕ → Bool
+is_authentic ciph nonce aad sealed =
+    nat_le 16 (length sealed) && fits_limits aad (ciphertext_of sealed)
+    && bytes_eq (sealed_tag sealed) (tag_of ciph nonce aad (ciphertext_of sealed))
+
+-- GCM-AD: the text, or none where the sealed text is not authentic (7.2)
+unfoldable pub gcm_ad : (List ℕ → List ℕ) → List ℕ → List ℕ → List ℕ → Option (List ℕ)
+gcm_ad ciph nonce aad sealed =
+    if is_authentic ciph nonce aad sealed then Some (gctr ciph (inc32 (j0 nonce)) (ciphertext_of sealed)) else None
+
+-- what a text is sealed to under a key, nonce and associated data
+abbrev pub seal_of : List ℕ → List ℕ → List ℕ → List ℕ → Option (List ℕ)
+seal_of key nonce aad text = gcm_ae (aes key) nonce aad text
+
+-- what a sealed text opens to under a key, nonce and associated data
+abbrev pub open_of : List ℕ → List ℕ → List ℕ → List ℕ → Option (List ℕ)
+open_of key nonce aad sealed = gcm_ad (aes key) nonce aad sealed

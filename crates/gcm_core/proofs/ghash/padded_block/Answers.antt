@@ -1,4 +1,4 @@
-use Rattle.std.proofs.Common.{◌≡◌, ℕ, ◌-◌, List, ◌++◌, length, take, drop, replicate, arith, inl, inr, ap, ◌∙◌, length-drop}
+use Rattle.std.proofs.Common.{◌≡◌, ℕ, ◌-◌, List, [], ◌++◌, length, take, drop, replicate, arith, inl, inr, ap, ◌∙◌, length-drop}
 use Rattle.std.proofs.lemmas.Bool.{cases_lt}
 use Rattle.std.proofs.lemmas.List.{append-nil, drop-replicate, take_all, take_rest}
 use Rattle.gcm_core.proofs.Hash.{padded-block, padded-whole}
@@ -24,6 +24,8 @@ returns c =
       | inr ge ↦
           let full : count ≡ 16 = omega arith in
           let none : 16 - count ≡ 0 = omega arith in
-          padded-whole d (copied ++ drop count block) start (omega arith)
-          (ap (λ (x : List ℕ). copied ++ x) (zeros ∙ ap (λ (k : ℕ). replicate k 0) none) ∙ append-nil copied ∙ front ∙ ap (λ (k : ℕ). take k (drop start d)) full)
+          let nothing : drop count block ≡ [] = zeros ∙ ap (λ (k : ℕ). replicate k 0) {y = 0} none in
+          let whole : take count (drop start d) ≡ take 16 (drop start d) = ap (λ (k : ℕ). take k (drop start d)) {y = 16} full in
+          let copy : copied ++ drop count block ≡ take 16 (drop start d) = ap (λ (x : List ℕ). copied ++ x) {y = []} nothing ∙ append-nil copied ∙ front ∙ whole in
+          padded-whole d (copied ++ drop count block) start (omega arith) copy
     ]
