@@ -233,20 +233,18 @@ pub none_and_none : (o : Option (List ℕ)) → o ≡ None → (true ≡ true) �
 none_and_none o e = (λ _. e, λ _. refl)
 
 -- the sealed text, from its parts
-pub gcm_ae-made : (ciph : List ℕ → List ℕ) (nonce aad text start icb c t : List ℕ) → fits_limits aad text ≡ true → start ≡ j0 nonce → icb ≡ inc32 start
+pub gcm_ae-made : (ciph : List ℕ → List ℕ) (nonce aad text icb c t : List ℕ) → fits_limits aad text ≡ true → icb ≡ inc32 (j0 nonce)
     → c ≡ gctr ciph icb text → t ≡ tag_of ciph nonce aad c → gcm_ae ciph nonce aad text ≡ Some (c ++ t)
-gcm_ae-made ciph nonce aad text start icb c t fits es ei ec et =
-    let first : icb ≡ inc32 (j0 nonce) = ei ∙ ap inc32 es in
-    let whole : c ≡ gctr ciph (inc32 (j0 nonce)) text = ec ∙ ap (λ (z : List ℕ). gctr ciph z text) first in
+gcm_ae-made ciph nonce aad text icb c t fits ei ec et =
+    let whole : c ≡ gctr ciph (inc32 (j0 nonce)) text = ec ∙ ap (λ (z : List ℕ). gctr ciph z text) ei in
     gcm_ae-within ciph nonce aad text fits ∙ ap (λ (z : List ℕ). Some (z ++ tag_of ciph nonce aad z)) (sym whole) ∙ ap (λ (z : List ℕ). Some (c ++ z)) (sym et)
 
 -- the opened text, from its parts
-pub gcm_ad-made : (ciph : List ℕ → List ℕ) (nonce aad c t start icb text : List ℕ) → length t ≡ 16 → fits_limits aad c ≡ true → t ≡ tag_of ciph nonce aad c
-    → start ≡ j0 nonce → icb ≡ inc32 start → text ≡ gctr ciph icb c → gcm_ad ciph nonce aad (c ++ t) ≡ Some text
-gcm_ad-made ciph nonce aad c t start icb text len fits et es ei ex =
-    let first : icb ≡ inc32 (j0 nonce) = ei ∙ ap inc32 es in
+pub gcm_ad-made : (ciph : List ℕ → List ℕ) (nonce aad c t icb text : List ℕ) → length t ≡ 16 → fits_limits aad c ≡ true → t ≡ tag_of ciph nonce aad c
+    → icb ≡ inc32 (j0 nonce) → text ≡ gctr ciph icb c → gcm_ad ciph nonce aad (c ++ t) ≡ Some text
+gcm_ad-made ciph nonce aad c t icb text len fits et ei ex =
     gcm_ad-authentic ciph nonce aad (c ++ t) ((is_authentic-Decides ciph nonce aad c t len).1 (fits, et))
-    ∙ ap (λ (z : List ℕ). Some (gctr ciph (inc32 (j0 nonce)) z)) (ciphertext_of-joined c t len) ∙ ap (λ (z : List ℕ). Some (gctr ciph z c)) (sym first) ∙ ap Some (sym ex)
+    ∙ ap (λ (z : List ℕ). Some (gctr ciph (inc32 (j0 nonce)) z)) (ciphertext_of-joined c t len) ∙ ap (λ (z : List ℕ). Some (gctr ciph z c)) (sym ei) ∙ ap Some (sym ex)
 
 -- nothing is opened past the limits, or under another tag
 pub gcm_ad-refused : (ciph : List ℕ → List ℕ) (nonce aad c t : List ℕ) → length t ≡ 16 → ((fits_limits aad c ≡ true) × (t ≡ tag_of ciph nonce aad c) → ⊥)

@@ -5,8 +5,13 @@ ghost use Rattle.gcm_core.specs.Aes.{add_round_key, byte_product, cipher, key_ex
 
 pub(crate) const BLOCK_LEN: usize = 16;
 
-// The bytes of a word of the key schedule.
+// A block, and a state: byte `4 * column + row` is in that row and column.
+pub(crate) type Block = [u8; BLOCK_LEN];
+
 const WORD_LEN: usize = 4;
+
+// A word of the key schedule.
+type Word = [u8; WORD_LEN];
 
 // What x^8 is modulo the field's polynomial x^8 + x^4 + x^3 + x + 1.
 const REDUCTION: u8 = 0x1b;
@@ -56,7 +61,7 @@ fn times_three(b: u8) -> u8
     times_two(b) ^ b
 }
 
-fn sub_bytes(state: [u8; 16]) -> [u8; 16]
+fn sub_bytes(state: Block) -> Block
     ensures { result ≡ sub_bytes state }
 {
     let mut out = [0; BLOCK_LEN];
@@ -66,7 +71,7 @@ fn sub_bytes(state: [u8; 16]) -> [u8; 16]
     out
 }
 
-fn shift_rows(s: [u8; 16]) -> [u8; 16]
+fn shift_rows(s: Block) -> Block
     ensures { result ≡ shift_rows s }
 {
     [
@@ -82,7 +87,7 @@ fn mixed_byte(a: u8, b: u8, c: u8, d: u8) -> u8
     times_two(a) ^ times_three(b) ^ c ^ d
 }
 
-fn mix_columns(s: [u8; 16]) -> [u8; 16]
+fn mix_columns(s: Block) -> Block
     ensures { result ≡ mix_columns s }
 {
     let mut out = [0; BLOCK_LEN];
@@ -98,7 +103,7 @@ fn mix_columns(s: [u8; 16]) -> [u8; 16]
     out
 }
 
-fn add_round_key(state: [u8; 16], round_keys: &[u8], round: usize) -> [u8; 16]
+fn add_round_key(state: Block, round_keys: &[u8], round: usize) -> Block
     requires { 16 * (round + 1) ≤ length round_keys.now }
     ensures { result ≡ add_round_key round_keys.now round state }
 {
@@ -110,7 +115,7 @@ fn add_round_key(state: [u8; 16], round_keys: &[u8], round: usize) -> [u8; 16]
 }
 
 // The cipher over one block. The number of rounds is one less than the number of round keys.
-pub(crate) fn cipher(round_keys: &[u8], block: [u8; 16]) -> [u8; 16]
+pub(crate) fn cipher(round_keys: &[u8], block: Block) -> Block
     requires { 32 ≤ length round_keys.now }
     ensures { result ≡ cipher round_keys.now block }
 {
@@ -123,7 +128,7 @@ pub(crate) fn cipher(round_keys: &[u8], block: [u8; 16]) -> [u8; 16]
 }
 
 // Word `i` of a key schedule.
-fn word_at(round_keys: &[u8], i: usize) -> [u8; 4]
+fn word_at(round_keys: &[u8], i: usize) -> Word
     requires { 4 * i + 4 ≤ length round_keys.now }
     ensures { result ≡ word_at round_keys.now i }
 {
@@ -136,7 +141,7 @@ fn word_at(round_keys: &[u8], i: usize) -> [u8; 4]
     ]
 }
 
-fn sub_word(word: [u8; 4]) -> [u8; 4]
+fn sub_word(word: Word) -> Word
     ensures { result ≡ sub_word word }
 {
     [
@@ -147,14 +152,14 @@ fn sub_word(word: [u8; 4]) -> [u8; 4]
     ]
 }
 
-fn xor_words(a: [u8; 4], b: [u8; 4]) -> [u8; 4]
+fn xor_words(a: Word, b: Word) -> Word
     ensures { result ≡ xor_bytes a b }
 {
     [a[0] ^ b[0], a[1] ^ b[1], a[2] ^ b[2], a[3] ^ b[3]]
 }
 
 // What is added to word `i - key_words` to make word `i`, from the word before it.
-fn schedule_term(previous: [u8; 4], key_words: usize, i: usize) -> [u8; 4]
+fn schedule_term(previous: Word, key_words: usize, i: usize) -> Word
     requires least { 0 < key_words }
     requires after_key { key_words ≤ i }
     requires within_rcon { i < 11 * key_words }
@@ -165,6 +170,7 @@ fn schedule_term(previous: [u8; 4], key_words: usize, i: usize) -> [u8; 4]
         let rcon = [POWERS_OF_X[i / key_words - 1], 0, 0, 0];
         xor_words(sub_word(rotated), rcon)
     } else if key_words > 6 && i % key_words == 4 {
+        // Only keys of more than six words have this substitution.
         sub_word(previous)
     } else {
         previous
@@ -185,5 +191,62 @@ pub(crate) fn expand_key(key: &[u8], round_keys: &mut [u8])
         let term = schedule_term(word_at(round_keys, i - 1), key_words, i);
         let word = xor_words(word_at(round_keys, i - key_words), term);
         round_keys[WORD_LEN * i..WORD_LEN * i + WORD_LEN].copy_from_slice(&word);
+    }
+}
+
+#[cfg(test)]
+mod tests {
+    use super::*;
+
+    // Blocks that an independent model encrypted.
+    #[test]
+    fn encrypts_under_keys_of_two_lengths(rt: HostRuntime) {
+        let mut round_keys = [0; 240];
+        expand_key(
+            b"\xe4\x7c\x34\xa1\x9e\x15\x4b\x37\xa8\x32\xdb\x5c\x0e\xa8\x07\x6a\x2e\x29\xe6\x46\xf4\x13\x35\x09\x40\x2a\x00\x05\x98\xdf\x7c\x81",
+            &mut round_keys,
+        );
+        assert_eq!(rt;
+            cipher(
+                &round_keys,
+                *b"\xb9\x3c\x40\x95\x74\x0b\x8d\xcf\x30\x63\x82\xce\x81\x49\x61\xda"
+            ),
+            *b"\xbf\xb7\x1d\x68\x29\xd7\x86\xc4\xd0\xe2\xda\xeb\xa9\x46\xda\x98"
+        );
+        expand_key(
+            b"\xd4\xb6\x3b\x84\xc1\xa9\xb1\x8e\x38\x38\xe5\xf2\x9d\xf3\x83\x22\x52\xaf\xd8\xdc\x93\x96\x14\x34\xe1\xff\xdf\x37\xd7\x05\xc0\xdd",
+            &mut round_keys,
+        );
+        assert_eq!(rt;
+            cipher(
+                &round_keys,
+                *b"\xfd\xbd\x47\x4f\xf8\x82\x44\x1f\x4e\xbe\x0c\x76\x4e\x04\xa4\xe9"
+            ),
+            *b"\xaf\x76\x6d\x01\x2b\x39\x7a\x7c\x41\xd2\x69\x35\x15\xb6\xe7\x47"
+        );
+
+        let mut round_keys = [0; 176];
+        expand_key(
+            b"\x1d\x78\xd9\x48\x13\xf9\xee\xef\xd3\xd9\xa0\xe2\x98\x6c\x2e\x66",
+            &mut round_keys,
+        );
+        assert_eq!(rt;
+            cipher(
+                &round_keys,
+                *b"\xce\x4b\x6f\x2c\xdf\x17\x76\xc5\xef\x92\x4f\x7c\x27\xf1\x2e\xe4"
+            ),
+            *b"\xf6\xaf\x91\xe8\x96\x9a\x41\xee\x5f\x11\x10\x9a\x9a\x45\x97\xa9"
+        );
+        expand_key(
+            b"\xe5\xc4\x6c\xea\x0d\x56\x52\xfe\x67\x86\x20\x24\x44\xe3\x13\x10",
+            &mut round_keys,
+        );
+        assert_eq!(rt;
+            cipher(
+                &round_keys,
+                *b"\x80\x71\x01\xf4\x1f\x44\x45\xb0\x4b\x16\x02\x18\xa2\x80\x9c\xfd"
+            ),
+            *b"\xf0\x0f\x06\x98\xc3\xe1\xcb\x7a\xd8\xa4\x32\xf0\x79\x1c\x06\xb2"
+        );
     }
 }

@@ -17,7 +17,7 @@ const ROUND_KEYS_LEN: usize = 240;
 /// see a value as its key. No call takes memory.
 #[derive(Drop)]
 pub struct AesGcm256Impl {
-    round_keys: [u8; 240],
+    round_keys: [u8; ROUND_KEYS_LEN],
     subkey: u128,
 }
 

@@ -6,12 +6,16 @@ ghost use Rattle.gcm_core.specs.Aes.{cipher, xor_bytes};
 ghost use Rattle.gcm_core.specs.Gcm.{gcm_ad, gcm_ae, gctr, inc32, j0, tag_of};
 ghost use Rattle.gcm_core.specs.Ghash.{polynomial_of};
 
-use crate::aes::{BLOCK_LEN, cipher};
+use crate::aes::{BLOCK_LEN, Block, cipher};
 use crate::error::{NotAuthentic, TooLong};
 use crate::ghash::{ghash, polynomial_of};
 
 // The bytes of a nonce, which stand before the counter in a counter block.
 const NONCE_LEN: usize = 12;
+
+type Nonce = [u8; NONCE_LEN];
+
+type Tag = [u8; BLOCK_LEN];
 
 // The longest text, in bytes.
 const TEXT_LIMIT: usize = (1 << 36) - 32;
@@ -28,7 +32,7 @@ pub(crate) fn hash_subkey(round_keys: &[u8]) -> u128
 }
 
 // The next counter block: the count in the last four bytes, modulo 2^32.
-fn inc32(block: &mut [u8; 16])
+fn inc32(block: &mut Block)
     ensures { block.new ≡ inc32 block.old }
 {
     let count = u32::from_be_bytes([block[12], block[13], block[14], block[15]]);
@@ -36,7 +40,7 @@ fn inc32(block: &mut [u8; 16])
 }
 
 // J0: the nonce and the count 1.
-fn start_block(nonce: &[u8; 12]) -> [u8; 16]
+fn start_block(nonce: &Nonce) -> Block
     ensures { result ≡ j0 nonce.now }
 {
     let mut block = [0; BLOCK_LEN];
@@ -45,7 +49,16 @@ fn start_block(nonce: &[u8; 12]) -> [u8; 16]
     block
 }
 
-fn xor_in_place(text: &mut [u8], stream: [u8; 16])
+// The counter block of a text's first block: the one after J0.
+fn text_start(nonce: &Nonce) -> Block
+    ensures { result ≡ inc32 (j0 nonce.now) }
+{
+    let mut block = start_block(nonce);
+    inc32(&mut block);
+    block
+}
+
+fn xor_in_place(text: &mut [u8], stream: Block)
     requires { length text.old ≤ 16 }
     ensures { text.new ≡ xor_bytes text.old stream }
 {
@@ -55,7 +68,7 @@ fn xor_in_place(text: &mut [u8], stream: [u8; 16])
 }
 
 // GCTR from the counter block `icb`.
-fn gctr(round_keys: &[u8], icb: [u8; 16], text: &mut [u8])
+fn gctr(round_keys: &[u8], icb: Block, text: &mut [u8])
     requires { 32 ≤ length round_keys.now }
     ensures { text.new ≡ gctr (cipher round_keys.now) icb text.old }
 {
@@ -69,7 +82,7 @@ fn gctr(round_keys: &[u8], icb: [u8; 16], text: &mut [u8])
     }
 }
 
-fn tag_of(round_keys: &[u8], subkey: u128, nonce: &[u8; 12], aad: &[u8], text: &[u8]) -> [u8; 16]
+fn tag_of(round_keys: &[u8], subkey: u128, nonce: &Nonce, aad: &[u8], text: &[u8]) -> Tag
     requires schedule { 32 ≤ length round_keys.now }
     requires subkey { subkey ≡ polynomial_of (cipher round_keys.now (replicate 16 0)) }
     requires aad { length aad.now < 2 ^ 61 }
@@ -82,7 +95,7 @@ fn tag_of(round_keys: &[u8], subkey: u128, nonce: &[u8; 12], aad: &[u8], text: &
 }
 
 // Whether the tags are equal, by all of their bytes.
-fn is_same_tag(a: &[u8; 16], b: &[u8; 16]) -> bool
+fn is_same_tag(a: &Tag, b: &Tag) -> bool
     ensures { IsTrue result ↔ (a.now ≡ b.now) }
 {
     let mut difference = 0;
@@ -103,10 +116,10 @@ fn is_within_limits(aad: &[u8], text: &[u8]) -> bool
 pub(crate) fn seal(
     round_keys: &[u8],
     subkey: u128,
-    nonce: &[u8; 12],
+    nonce: &Nonce,
     aad: &[u8],
     buf: &mut [u8],
-    tag: &mut [u8; 16],
+    tag: &mut Tag,
 ) -> Result<(), TooLong>
     requires schedule { 32 ≤ length round_keys.now }
     requires subkey { subkey ≡ polynomial_of (cipher round_keys.now (replicate 16 0)) }
@@ -120,9 +133,7 @@ pub(crate) fn seal(
     if !is_within_limits(aad, buf) {
         return Err(TooLong);
     }
-    let mut icb = start_block(nonce);
-    inc32(&mut icb);
-    gctr(round_keys, icb, buf);
+    gctr(round_keys, text_start(nonce), buf);
     *tag = tag_of(round_keys, subkey, nonce, aad, buf);
     Ok(())
 }
@@ -131,10 +142,10 @@ pub(crate) fn seal(
 pub(crate) fn open(
     round_keys: &[u8],
     subkey: u128,
-    nonce: &[u8; 12],
+    nonce: &Nonce,
     aad: &[u8],
     buf: &mut [u8],
-    tag: &[u8; 16],
+    tag: &Tag,
 ) -> Result<(), NotAuthentic>
     requires schedule { 32 ≤ length round_keys.now }
     requires subkey { subkey ≡ polynomial_of (cipher round_keys.now (replicate 16 0)) }
@@ -153,8 +164,6 @@ pub(crate) fn open(
     if !is_same_tag(tag, &expected) {
         return Err(NotAuthentic);
     }
-    let mut icb = start_block(nonce);
-    inc32(&mut icb);
-    gctr(round_keys, icb, buf);
+    gctr(round_keys, text_start(nonce), buf);
     Ok(())
 }

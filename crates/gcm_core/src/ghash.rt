@@ -6,7 +6,7 @@ ghost use Rattle.gcm_core.specs.FieldMul.{times_x};
 ghost use Rattle.gcm_core.specs.Gcm.{authenticated, padded};
 ghost use Rattle.gcm_core.specs.Ghash.{block_of, block_product, continued, polynomial_of, polynomials, reduction_block, weighted_sum};
 
-use crate::aes::BLOCK_LEN;
+use crate::aes::{BLOCK_LEN, Block};
 
 // The coefficients of an element of GF(2^128).
 const DEGREE: u32 = 128;
@@ -45,52 +45,52 @@ fn block_product(a: u128, b: u128) -> u128
 }
 
 // The polynomial of a block, whose bit i is the coefficient of x^i.
-pub(crate) fn polynomial_of(block: [u8; 16]) -> u128
+pub(crate) fn polynomial_of(block: Block) -> u128
     ensures { result ≡ polynomial_of block }
 {
     u128::from_be_bytes(block).reverse_bits()
 }
 
-fn block_of(polynomial: u128) -> [u8; 16]
+fn block_of(polynomial: u128) -> Block
     ensures { result ≡ block_of polynomial }
 {
     polynomial.reverse_bits().to_be_bytes()
 }
 
 // One block more, by Horner's rule.
-fn absorb_block(subkey: u128, sum: u128, block: [u8; 16]) -> u128
+fn absorb_block(subkey: u128, sum: u128, block: Block) -> u128
     ensures { result ≡ block_product (bit_xor sum (polynomial_of block)) subkey }
 {
     block_product(sum ^ polynomial_of(block), subkey)
 }
 
-// The block of the data from `start` on, with zeros behind a short one.
-fn padded_block(data: &[u8], start: usize) -> [u8; 16]
-    requires within { start < length data.now }
+// The block of the bytes from `start` on, with zeros behind a short one.
+fn padded_block(bytes: &[u8], start: usize) -> Block
+    requires within { start < length bytes.now }
     requires at_block { start % 16 ≡ 0 }
-    ensures { result ≡ take 16 (drop start (padded data.now)) }
+    ensures { result ≡ take 16 (drop start (padded bytes.now)) }
 {
     let mut block = [0; BLOCK_LEN];
-    let rest = &data[start..];
+    let rest = &bytes[start..];
     let count = rest.len().min(BLOCK_LEN);
     block[..count].copy_from_slice(&rest[..count]);
     block
 }
 
-// The blocks of the padded data, after those that gave the sum `earlier`.
-fn absorb(subkey: u128, earlier: u128, data: &[u8]) -> u128
+// The blocks of the padded bytes, after those that gave the sum `earlier`.
+fn absorb(subkey: u128, earlier: u128, bytes: &[u8]) -> u128
     ensures { result ≡ continued subkey earlier
-        (polynomials (div_ceil (length data.now) 16) (padded data.now)) }
+        (polynomials (div_ceil (length bytes.now) 16) (padded bytes.now)) }
 {
     let mut sum = earlier;
-    for i in 0..data.len().div_ceil(BLOCK_LEN) {
-        sum = absorb_block(subkey, sum, padded_block(data, BLOCK_LEN * i));
+    for i in 0..bytes.len().div_ceil(BLOCK_LEN) {
+        sum = absorb_block(subkey, sum, padded_block(bytes, BLOCK_LEN * i));
     }
     sum
 }
 
 // The last block: both lengths in bits.
-fn length_block(aad_len: usize, text_len: usize) -> [u8; 16]
+fn length_block(aad_len: usize, text_len: usize) -> Block
     requires aad { aad_len < 2 ^ 61 }
     requires text { text_len < 2 ^ 61 }
     ensures { result ≡ to_be_bytes w64 (8 * aad_len) ++ to_be_bytes w64 (8 * text_len) }
@@ -102,7 +102,7 @@ fn length_block(aad_len: usize, text_len: usize) -> [u8; 16]
 }
 
 // GHASH, under the polynomial of the hash subkey, of all that a tag authenticates.
-pub(crate) fn ghash(subkey: u128, aad: &[u8], text: &[u8]) -> [u8; 16]
+pub(crate) fn ghash(subkey: u128, aad: &[u8], text: &[u8]) -> Block
     requires aad { length aad.now < 2 ^ 61 }
     requires text { length text.now < 2 ^ 61 }
     ensures { let x = authenticated aad.now text.now

@@ -8,6 +8,8 @@ mod error;
 mod gcm;
 mod ghash;
 pub mod laws;
+#[cfg(test)]
+mod tests;
 
 pub use aes_gcm::AesGcm256Impl;
 pub use error::{NotAuthentic, TooLong};

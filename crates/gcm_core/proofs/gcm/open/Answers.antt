@@ -19,9 +19,9 @@ returns-then-not-is_same_tag-clause-refused c =
 
 pub returns-clause-opened : goal.returns-clause-opened
 returns-clause-opened c =
-    gcm_ad-made (cipher c.args.round_keys.now) c.args.nonce.now c.args.aad.now c.args.buf.now c.args.tag.now _ _ _ c.told-tag
+    gcm_ad-made (cipher c.args.round_keys.now) c.args.nonce.now c.args.aad.now c.args.buf.now c.args.tag.now _ _ c.told-tag
     (fits_limits-tested c.args.aad.now c.args.buf.now c.is_within_limits.result true c.is_within_limits.ensures c.if-not-is_within_limits.false)
-    (c.is_same_tag.ensures.0 c.if-not-is_same_tag.false ∙ c.tag_of-expected.ensures) c.start_block-icb.ensures c.inc32.ensures c.gctr.ensures
+    (c.is_same_tag.ensures.0 c.if-not-is_same_tag.false ∙ c.tag_of-expected.ensures) c.text_start.ensures c.gctr.ensures
 
 pub returns-clause-refused : goal.returns-clause-refused
 returns-clause-refused c = some_or_none _ _ (returns-clause-opened c)

@@ -10,9 +10,9 @@ returns-then-not-is_within_limits-clause-refused c =
 
 pub returns-clause-sealed : goal.returns-clause-sealed
 returns-clause-sealed c =
-    gcm_ae-made (cipher c.args.round_keys.now) c.args.nonce.now c.args.aad.now c.args.buf.now _ _ _ _
+    gcm_ae-made (cipher c.args.round_keys.now) c.args.nonce.now c.args.aad.now c.args.buf.now _ _ _
     (fits_limits-tested c.args.aad.now c.args.buf.now c.is_within_limits.result true c.is_within_limits.ensures c.if-not-is_within_limits.false)
-    c.start_block-icb.ensures c.inc32.ensures c.gctr.ensures c.tag_of.ensures
+    c.text_start.ensures c.gctr.ensures c.tag_of.ensures
 
 pub returns-clause-refused : goal.returns-clause-refused
 returns-clause-refused c = some_or_none _ _ (returns-clause-sealed c)

@@ -6,7 +6,7 @@ use Rattle.gcm_core.proofs.ghash.padded_block.Goals as goal
 
 pub returns : goal.returns
 returns c =
-    let d : List ℕ = c.args.data.now in
+    let d : List ℕ = c.args.bytes.now in
     let start : ℕ = c.args.start in
     let count : ℕ = c.min-count.result in
     let copied : List ℕ = c.copy_from_slice.new.self in
