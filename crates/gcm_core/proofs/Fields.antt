@@ -191,7 +191,7 @@ product_of-xor n r (suc k) a d b h hr hb =
     (product_of-next n r k a b) (product_of-next n r k d b) outer last
 
 -- additive in b
-product_of-of_xor : (n r k a b c : ℕ) → 1 ≤ n → r < 2 ^ n → b < 2 ^ n → c < 2 ^ n → product_of n r k a (bit_xor b c) ≡ bit_xor (product_of n r k a b) (product_of n r k a c)
+pub product_of-of_xor : (n r k a b c : ℕ) → 1 ≤ n → r < 2 ^ n → b < 2 ^ n → c < 2 ^ n → product_of n r k a (bit_xor b c) ≡ bit_xor (product_of n r k a b) (product_of n r k a c)
 product_of-of_xor n r zero a b c h hr hb hc = rw (product_of-none n r a (bit_xor b c), product_of-none n r a b, product_of-none n r a c) refl
 product_of-of_xor n r (suc k) a b c h hr hb hc =
     let p : ℕ = product_of n r k (a / 2) b in
@@ -352,3 +352,30 @@ product_of_assoc n r (suc k) a b c f hb hc =
     ∙ product_of-xor n r n (times_x n r p) (picked (a % 2) b) c f.some f.small hc
     ∙ ap (λ (z : ℕ). bit_xor z (product_of n r n (picked (a % 2) b) c)) front ∙ ap (bit_xor (times_x n r (product_of n r k (a / 2) (product_of n r n b c)))) last
     ∙ sym (product_of-next n r k a (product_of n r n b c))
+
+-- a·b is b·a
+pub product_of_comm : (n r k a b : ℕ) → 1 ≤ n → r < 2 ^ n → k ≤ n → a < 2 ^ k → b < 2 ^ n → product_of n r k a b ≡ product_of n r n b a
+product_of_comm n r zero a b h hr hk ha hb =
+    let e : a ≡ 0 = omega arith in
+    product_of-none n r a b ∙ rw e (sym (product_of-by_zero n r n b))
+product_of_comm n r (suc k) a b h hr hk ha hb =
+    let half : a / 2 < 2 ^ k = shr_below a k 1 (rw (add-one k) ha) in
+    let room : a / 2 < 2 ^ (n - 1) = lt_of_lt_of_le half (pow_le k (n - 1) (omega arith)) in
+    let fits : a / 2 < 2 ^ n = lt_of_lt_of_le half (pow_le k n (omega arith)) in
+    let small : a % 2 < 2 ^ n = lt_of_lt_of_le (mod_below a 2 (omega arith)) (pow_le 1 n h) in
+    let t : ℕ = times_x n r (a / 2) in
+    let parts : bit_xor t (a % 2) ≡ a =
+    ap (λ (z : ℕ). bit_xor z (a % 2)) (times_x-low n r (a / 2) room) ∙ xor-double_bit (a / 2) (a % 2) (omega arith) ∙ omega arith in
+    let front : product_of n r n b t ≡ times_x n r (product_of n r k (a / 2) b) =
+    product_of-times_x n r n b (a / 2) h hr fits ∙ ap (times_x n r) (sym (product_of_comm n r k (a / 2) b h hr (omega arith) half hb)) in
+    let last : product_of n r n b (a % 2) ≡ picked (a % 2) b = elim (cases_lt (a % 2) 1) [
+      | inl lt ↦
+          let e : a % 2 ≡ 0 = omega arith in
+          rw e (product_of-by_zero n r n b)
+      | inr ge ↦
+          let e : a % 2 ≡ 1 = omega arith in
+          rw e (product_of-by_one n r n b (omega arith) hb)
+    ] in
+    sym (ap (product_of n r n b) (sym parts) ∙ product_of-of_xor n r n b t (a % 2) h hr (times_x-lt n r (a / 2) h hr fits) small
+    ∙ ap (λ (z : ℕ). bit_xor z (product_of n r n b (a % 2))) front ∙ ap (bit_xor (times_x n r (product_of n r k (a / 2) b))) last
+    ∙ sym (product_of-next n r k a b))

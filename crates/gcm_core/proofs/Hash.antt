@@ -6,7 +6,7 @@ use Rattle.std.proofs.lemmas.Nat.{shr-shr}
 use Rattle.std.proofs.lemmas.Nat.Bits.{shr_and_one}
 use Rattle.std.proofs.lemmas.List.{append_assoc, drop-append-le, drop-drop, length-replicate, take-append-le, take_all, nil_from_length}
 use lib.Bits.{xor_assoc, xor_zero_r}
-use Rattle.gcm_core.proofs.Fields.{Reduces, picked, product_of-by_one, product_of-lt, product_of-next, product_of-xor, product_of-zero, product_of_assoc}
+use Rattle.gcm_core.proofs.Fields.{Reduces, picked, product_of-by_one, product_of-lt, product_of-of_xor, product_of-one, product_of_comm, product_of-next, product_of-xor, product_of-zero, product_of_assoc}
 use Rattle.gcm_core.specs.FieldMul.{product_of, times_x}
 use Rattle.gcm_core.specs.Gcm.{authenticated, padded}
 use Rattle.gcm_core.specs.Ghash.{block_power, block_product, continued, polynomial_of, polynomials, reduction_block, weighted_sum}
@@ -17,7 +17,7 @@ reduces_block : Reduces 128 reduction_block
 unfolding product_of times_x
 reduces_block = record { some = omega arith; small = omega arith; at_one = refl }
 
-block_product-lt : (a b : ℕ) → b < 2 ^ 128 → block_product a b < 2 ^ 128
+pub block_product-lt : (a b : ℕ) → b < 2 ^ 128 → block_product a b < 2 ^ 128
 unfolding block_product
 block_product-lt a b h = product_of-lt 128 reduction_block 128 a b reduces_block.some reduces_block.small h
 
@@ -25,9 +25,22 @@ block_product-xor : (a d b : ℕ) → b < 2 ^ 128 → block_product (bit_xor a d
 unfolding block_product
 block_product-xor a d b h = product_of-xor 128 reduction_block 128 a d b reduces_block.some reduces_block.small h
 
-block_product_assoc : (a b c : ℕ) → b < 2 ^ 128 → c < 2 ^ 128 → block_product (block_product a b) c ≡ block_product a (block_product b c)
+pub block_product_assoc : (a b c : ℕ) → b < 2 ^ 128 → c < 2 ^ 128 → block_product (block_product a b) c ≡ block_product a (block_product b c)
 unfolding block_product
 block_product_assoc a b c hb hc = product_of_assoc 128 reduction_block 128 a b c reduces_block hb hc
+
+pub block_product_comm : (a b : ℕ) → a < 2 ^ 128 → b < 2 ^ 128 → block_product a b ≡ block_product b a
+unfolding block_product
+block_product_comm a b ha hb = product_of_comm 128 reduction_block 128 a b reduces_block.some reduces_block.small (omega arith) ha hb
+
+-- additive in the second factor
+pub block_product-of_xor : (a b c : ℕ) → b < 2 ^ 128 → c < 2 ^ 128 → block_product a (bit_xor b c) ≡ bit_xor (block_product a b) (block_product a c)
+unfolding block_product
+block_product-of_xor a b c hb hc = product_of-of_xor 128 reduction_block 128 a b c reduces_block.some reduces_block.small hb hc
+
+pub block_product-one : (b : ℕ) → block_product 1 b ≡ b
+unfolding block_product
+block_product-one b = product_of-one 128 reduction_block 127 b
 
 block_product-by_one : (a : ℕ) → a < 2 ^ 128 → block_product a 1 ≡ a
 unfolding block_product

@@ -5,3 +5,4 @@ pub mod Schedule
 pub mod Hash
 pub mod Stream
 pub mod Sealing
+pub mod SealingLaws

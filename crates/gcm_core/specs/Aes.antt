@@ -1,6 +1,6 @@
--- AES (FIPS 197) as functions on lists of bytes, in the standard's names; section numbers are its.
--- A block and a state are 16 bytes. A key is 4·Nk bytes, for Nk = 4, 6 or 8, and a key schedule is
--- the list of the bytes of its words.
+-- AES (FIPS 197) as functions on lists of bytes, in the standard's names, with its section numbers.
+-- A block and a state are 16 bytes. A key is 4·Nk bytes, for Nk = 4, 6 or 8. A key schedule is the
+-- list of its words' bytes: word i is the bytes 4·i to 4·i + 3.
 use Rattle.std.specs.Prelude.{ℕ, zero, suc, ◌+◌, ◌-◌, ◌*◌, ◌/◌, ◌%◌, ◌^◌, List, [], ◌∷◌, ◌++◌, length, map, sum_by, bit_xor, slice_index, nat_lt, ◌==◌, ◌&&◌, if◌then◌else◌, find, unwrap_or}
 use Rattle.std.specs.List.{range_with_len}
 use Rattle.std.specs.Int.{bit_at}
@@ -52,7 +52,8 @@ mix_columns s = state_of (λ r c. bit_xor (bit_xor (bit_xor (byte_product 2 (sta
 unfoldable pub add_round_key : List ℕ → ℕ → List ℕ → List ℕ
 add_round_key w round s = state_of (λ r c. bit_xor (state_byte s r c) (slice_index w (16 * round + (4 * c + r))))
 
--- the state before the last round's SubBytes, where n rounds came before (5.1)
+-- the state after n rounds of SubBytes, ShiftRows, MixColumns and AddRoundKey, which follow one
+-- AddRoundKey (5.1)
 unfoldable pub state_after : List ℕ → List ℕ → ℕ → List ℕ
 state_after w block zero = add_round_key w 0 block
 state_after w block (suc n) =
@@ -62,7 +63,7 @@ state_after w block (suc n) =
 abbrev pub round_count : List ℕ → ℕ
 round_count w = length w / 16 - 1
 
--- Cipher with the key schedule w: the last round has no MixColumns (5.1)
+-- Cipher of a block with the key schedule w: the last of the Nr rounds has no MixColumns (5.1)
 unfoldable pub cipher : List ℕ → List ℕ → List ℕ
 cipher w block =
     add_round_key w (round_count w) (shift_rows (sub_bytes (state_after w block (round_count w - 1))))

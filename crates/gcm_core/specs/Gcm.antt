@@ -1,5 +1,6 @@
 -- AES-GCM with a nonce of 12 bytes (SP 800-38D) as functions on lists of bytes, in the standard's
--- names; section numbers are its. A length in bits is 8 times a length in bytes.
+-- names, with its section numbers. `ciph` is the block cipher under the key. A length in bits is 8
+-- times a length in bytes.
 use Rattle.std.specs.Prelude.{ℕ, zero, suc, ◌+◌, ◌-◌, ◌*◌, ◌%◌, ◌^◌, List, [], ◌∷◌, ◌++◌, length, take, drop, replicate, Bool, nat_le, ◌&&◌, if◌then◌else◌, Option, Some, None}
 use Rattle.std.specs.Int.{w32, w64, from_be_bytes, to_be_bytes, div_ceil}
 use Rattle.std.specs.Str.{bytes_eq}
@@ -10,13 +11,12 @@ use Rattle.gcm_core.specs.Ghash.{ghash}
 unfoldable pub inc32 : List ℕ → List ℕ
 inc32 block = take 12 block ++ to_be_bytes w32 ((from_be_bytes w32 (drop 12 block) + 1) % 2 ^ 32)
 
--- GCTR over n blocks of x from the counter block cb, where ciph is the block cipher under the key;
--- the last block may be short (6.5)
+-- GCTR over n blocks of x from the counter block cb on; the last block may be short (6.5)
 unfoldable pub gctr_blocks : (List ℕ → List ℕ) → ℕ → List ℕ → List ℕ → List ℕ
 gctr_blocks ciph zero cb x = []
 gctr_blocks ciph (suc n) cb x = xor_bytes (take 16 x) (ciph cb) ++ gctr_blocks ciph n (inc32 cb) (drop 16 x)
 
--- GCTR (6.5)
+-- GCTR from the initial counter block (6.5)
 unfoldable pub gctr : (List ℕ → List ℕ) → List ℕ → List ℕ → List ℕ
 gctr ciph icb x = gctr_blocks ciph (div_ceil (length x) 16) icb x
 

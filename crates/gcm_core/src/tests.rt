@@ -129,8 +129,11 @@ fn sealed_texts_are_those_from_outside(rt: HostRuntime) {
     }
 }
 
-// The example of FIPS 197, section 5.1.1.
 #[test]
-fn the_table_has_the_example(rt: HostRuntime) {
+fn laws_can_be_called(rt: HostRuntime) {
+    laws::opens_what_was_sealed();
+    laws::sealed_len();
+    laws::block_products();
+    // The example of FIPS 197, section 5.1.1.
     assert_eq!(rt; laws::s_box_table()[0x53], 0xed);
 }
