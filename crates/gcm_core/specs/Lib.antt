@@ -1,0 +1,8 @@
+-- multiplication in a field of binary polynomials
+pub mod FieldMul
+-- the block cipher and its key schedule
+pub mod Aes
+-- the hash over whole blocks
+pub mod Ghash
+-- sealing and opening
+pub mod Gcm

@@ -1,0 +1,252 @@
+// The block cipher AES under a key of 16, 24 or 32 bytes (FIPS 197).
+
+ghost use Rattle.std.specs.Prelude.{◌≡◌, ◌+◌, ◌*◌, ◌%◌, ◌<◌, ◌≤◌, bit_xor, length};
+ghost use Rattle.gcm_core.specs.Aes.{add_round_key, byte_product, cipher, key_expansion, mix_columns, s_box, schedule_term, shift_rows, sub_bytes, sub_word, word_at, xor_bytes};
+
+pub(crate) const BLOCK_LEN: usize = 16;
+
+// A block, and a state: byte `4 * column + row` is in that row and column.
+pub(crate) type Block = [u8; BLOCK_LEN];
+
+const WORD_LEN: usize = 4;
+
+// A word of the key schedule.
+type Word = [u8; WORD_LEN];
+
+// What x^8 is modulo the field's polynomial x^8 + x^4 + x^3 + x + 1.
+const REDUCTION: u8 = 0x1b;
+
+// The powers of x from x^0 on, which Rcon counts from 1.
+const POWERS_OF_X: [u8; 10] = [0x01, 0x02, 0x04, 0x08, 0x10, 0x20, 0x40, 0x80, 0x1b, 0x36];
+
+// Table 4 of the standard.
+pub(crate) const S_BOX: [u8; 256] = [
+    0x63, 0x7c, 0x77, 0x7b, 0xf2, 0x6b, 0x6f, 0xc5, 0x30, 0x01, 0x67, 0x2b, 0xfe, 0xd7, 0xab, 0x76,
+    0xca, 0x82, 0xc9, 0x7d, 0xfa, 0x59, 0x47, 0xf0, 0xad, 0xd4, 0xa2, 0xaf, 0x9c, 0xa4, 0x72, 0xc0,
+    0xb7, 0xfd, 0x93, 0x26, 0x36, 0x3f, 0xf7, 0xcc, 0x34, 0xa5, 0xe5, 0xf1, 0x71, 0xd8, 0x31, 0x15,
+    0x04, 0xc7, 0x23, 0xc3, 0x18, 0x96, 0x05, 0x9a, 0x07, 0x12, 0x80, 0xe2, 0xeb, 0x27, 0xb2, 0x75,
+    0x09, 0x83, 0x2c, 0x1a, 0x1b, 0x6e, 0x5a, 0xa0, 0x52, 0x3b, 0xd6, 0xb3, 0x29, 0xe3, 0x2f, 0x84,
+    0x53, 0xd1, 0x00, 0xed, 0x20, 0xfc, 0xb1, 0x5b, 0x6a, 0xcb, 0xbe, 0x39, 0x4a, 0x4c, 0x58, 0xcf,
+    0xd0, 0xef, 0xaa, 0xfb, 0x43, 0x4d, 0x33, 0x85, 0x45, 0xf9, 0x02, 0x7f, 0x50, 0x3c, 0x9f, 0xa8,
+    0x51, 0xa3, 0x40, 0x8f, 0x92, 0x9d, 0x38, 0xf5, 0xbc, 0xb6, 0xda, 0x21, 0x10, 0xff, 0xf3, 0xd2,
+    0xcd, 0x0c, 0x13, 0xec, 0x5f, 0x97, 0x44, 0x17, 0xc4, 0xa7, 0x7e, 0x3d, 0x64, 0x5d, 0x19, 0x73,
+    0x60, 0x81, 0x4f, 0xdc, 0x22, 0x2a, 0x90, 0x88, 0x46, 0xee, 0xb8, 0x14, 0xde, 0x5e, 0x0b, 0xdb,
+    0xe0, 0x32, 0x3a, 0x0a, 0x49, 0x06, 0x24, 0x5c, 0xc2, 0xd3, 0xac, 0x62, 0x91, 0x95, 0xe4, 0x79,
+    0xe7, 0xc8, 0x37, 0x6d, 0x8d, 0xd5, 0x4e, 0xa9, 0x6c, 0x56, 0xf4, 0xea, 0x65, 0x7a, 0xae, 0x08,
+    0xba, 0x78, 0x25, 0x2e, 0x1c, 0xa6, 0xb4, 0xc6, 0xe8, 0xdd, 0x74, 0x1f, 0x4b, 0xbd, 0x8b, 0x8a,
+    0x70, 0x3e, 0xb5, 0x66, 0x48, 0x03, 0xf6, 0x0e, 0x61, 0x35, 0x57, 0xb9, 0x86, 0xc1, 0x1d, 0x9e,
+    0xe1, 0xf8, 0x98, 0x11, 0x69, 0xd9, 0x8e, 0x94, 0x9b, 0x1e, 0x87, 0xe9, 0xce, 0x55, 0x28, 0xdf,
+    0x8c, 0xa1, 0x89, 0x0d, 0xbf, 0xe6, 0x42, 0x68, 0x41, 0x99, 0x2d, 0x0f, 0xb0, 0x54, 0xbb, 0x16,
+];
+
+fn s_box(b: u8) -> u8
+    ensures { result ≡ s_box b }
+{
+    S_BOX[b as usize]
+}
+
+fn times_two(b: u8) -> u8
+    ensures { result ≡ byte_product 2 b }
+{
+    if b < 0x80 {
+        b << 1
+    } else {
+        (b << 1) ^ REDUCTION
+    }
+}
+
+fn times_three(b: u8) -> u8
+    ensures { result ≡ byte_product 3 b }
+{
+    times_two(b) ^ b
+}
+
+fn sub_bytes(state: Block) -> Block
+    ensures { result ≡ sub_bytes state }
+{
+    let mut out = [0; BLOCK_LEN];
+    for k in 0..BLOCK_LEN {
+        out[k] = s_box(state[k]);
+    }
+    out
+}
+
+fn shift_rows(s: Block) -> Block
+    ensures { result ≡ shift_rows s }
+{
+    [
+        s[0], s[5], s[10], s[15], s[4], s[9], s[14], s[3], s[8], s[13], s[2], s[7], s[12], s[1],
+        s[6], s[11],
+    ]
+}
+
+// A byte of MixColumns, from the column's bytes from its own row on.
+fn mixed_byte(a: u8, b: u8, c: u8, d: u8) -> u8
+    ensures { result ≡ bit_xor (bit_xor (bit_xor (byte_product 2 a) (byte_product 3 b)) c) d }
+{
+    times_two(a) ^ times_three(b) ^ c ^ d
+}
+
+fn mix_columns(s: Block) -> Block
+    ensures { result ≡ mix_columns s }
+{
+    let mut out = [0; BLOCK_LEN];
+    for k in 0..BLOCK_LEN {
+        let column = k - k % 4;
+        out[k] = mixed_byte(
+            s[k],
+            s[column + (k + 1) % 4],
+            s[column + (k + 2) % 4],
+            s[column + (k + 3) % 4],
+        );
+    }
+    out
+}
+
+fn add_round_key(state: Block, round_keys: &[u8], round: usize) -> Block
+    requires { 16 * (round + 1) ≤ length round_keys.now }
+    ensures { result ≡ add_round_key round_keys.now round state }
+{
+    let mut out = [0; BLOCK_LEN];
+    for k in 0..BLOCK_LEN {
+        out[k] = state[k] ^ round_keys[BLOCK_LEN * round + k];
+    }
+    out
+}
+
+// The cipher over one block. The number of rounds is one less than the number of round keys.
+pub(crate) fn cipher(round_keys: &[u8], block: Block) -> Block
+    requires { 32 ≤ length round_keys.now }
+    ensures { result ≡ cipher round_keys.now block }
+{
+    let rounds = round_keys.len() / BLOCK_LEN - 1;
+    let mut state = add_round_key(block, round_keys, 0);
+    for round in 1..rounds {
+        state = add_round_key(mix_columns(shift_rows(sub_bytes(state))), round_keys, round);
+    }
+    add_round_key(shift_rows(sub_bytes(state)), round_keys, rounds)
+}
+
+// Word `i` of a key schedule.
+fn word_at(round_keys: &[u8], i: usize) -> Word
+    requires { 4 * i + 4 ≤ length round_keys.now }
+    ensures { result ≡ word_at round_keys.now i }
+{
+    let start = WORD_LEN * i;
+    [
+        round_keys[start],
+        round_keys[start + 1],
+        round_keys[start + 2],
+        round_keys[start + 3],
+    ]
+}
+
+fn sub_word(word: Word) -> Word
+    ensures { result ≡ sub_word word }
+{
+    [
+        s_box(word[0]),
+        s_box(word[1]),
+        s_box(word[2]),
+        s_box(word[3]),
+    ]
+}
+
+fn xor_words(a: Word, b: Word) -> Word
+    ensures { result ≡ xor_bytes a b }
+{
+    [a[0] ^ b[0], a[1] ^ b[1], a[2] ^ b[2], a[3] ^ b[3]]
+}
+
+// What is added to word `i - key_words` to make word `i`, from the word before it.
+fn schedule_term(previous: Word, key_words: usize, i: usize) -> Word
+    requires least { 0 < key_words }
+    requires after_key { key_words ≤ i }
+    requires within_rcon { i < 11 * key_words }
+    ensures { result ≡ schedule_term key_words i previous }
+{
+    if i % key_words == 0 {
+        let rotated = [previous[1], previous[2], previous[3], previous[0]];
+        let rcon = [POWERS_OF_X[i / key_words - 1], 0, 0, 0];
+        xor_words(sub_word(rotated), rcon)
+    } else if key_words > 6 && i % key_words == 4 {
+        // Only keys of more than six words have this substitution.
+        sub_word(previous)
+    } else {
+        previous
+    }
+}
+
+// Fills the whole key schedule, whose length fixes the number of words.
+pub(crate) fn expand_key(key: &[u8], round_keys: &mut [u8])
+    requires least { 16 ≤ length key.now }
+    requires most { length key.now ≤ 32 }
+    requires whole { length key.now % 4 ≡ 0 }
+    requires room { length round_keys.old ≡ 4 * length key.now + 112 }
+    ensures { round_keys.new ≡ key_expansion key.now }
+{
+    let key_words = key.len() / WORD_LEN;
+    round_keys[..key.len()].copy_from_slice(key);
+    for i in key_words..round_keys.len() / WORD_LEN {
+        let term = schedule_term(word_at(round_keys, i - 1), key_words, i);
+        let word = xor_words(word_at(round_keys, i - key_words), term);
+        round_keys[WORD_LEN * i..WORD_LEN * i + WORD_LEN].copy_from_slice(&word);
+    }
+}
+
+#[cfg(test)]
+mod tests {
+    use super::*;
+
+    // Blocks that an independent model encrypted.
+    #[test]
+    fn encrypts_under_keys_of_two_lengths(rt: HostRuntime) {
+        let mut round_keys = [0; 240];
+        expand_key(
+            b"\xe4\x7c\x34\xa1\x9e\x15\x4b\x37\xa8\x32\xdb\x5c\x0e\xa8\x07\x6a\x2e\x29\xe6\x46\xf4\x13\x35\x09\x40\x2a\x00\x05\x98\xdf\x7c\x81",
+            &mut round_keys,
+        );
+        assert_eq!(rt;
+            cipher(
+                &round_keys,
+                *b"\xb9\x3c\x40\x95\x74\x0b\x8d\xcf\x30\x63\x82\xce\x81\x49\x61\xda"
+            ),
+            *b"\xbf\xb7\x1d\x68\x29\xd7\x86\xc4\xd0\xe2\xda\xeb\xa9\x46\xda\x98"
+        );
+        expand_key(
+            b"\xd4\xb6\x3b\x84\xc1\xa9\xb1\x8e\x38\x38\xe5\xf2\x9d\xf3\x83\x22\x52\xaf\xd8\xdc\x93\x96\x14\x34\xe1\xff\xdf\x37\xd7\x05\xc0\xdd",
+            &mut round_keys,
+        );
+        assert_eq!(rt;
+            cipher(
+                &round_keys,
+                *b"\xfd\xbd\x47\x4f\xf8\x82\x44\x1f\x4e\xbe\x0c\x76\x4e\x04\xa4\xe9"
+            ),
+            *b"\xaf\x76\x6d\x01\x2b\x39\x7a\x7c\x41\xd2\x69\x35\x15\xb6\xe7\x47"
+        );
+
+        let mut round_keys = [0; 176];
+        expand_key(
+            b"\x1d\x78\xd9\x48\x13\xf9\xee\xef\xd3\xd9\xa0\xe2\x98\x6c\x2e\x66",
+            &mut round_keys,
+        );
+        assert_eq!(rt;
+            cipher(
+                &round_keys,
+                *b"\xce\x4b\x6f\x2c\xdf\x17\x76\xc5\xef\x92\x4f\x7c\x27\xf1\x2e\xe4"
+            ),
+            *b"\xf6\xaf\x91\xe8\x96\x9a\x41\xee\x5f\x11\x10\x9a\x9a\x45\x97\xa9"
+        );
+        expand_key(
+            b"\xe5\xc4\x6c\xea\x0d\x56\x52\xfe\x67\x86\x20\x24\x44\xe3\x13\x10",
+            &mut round_keys,
+        );
+        assert_eq!(rt;
+            cipher(
+                &round_keys,
+                *b"\x80\x71\x01\xf4\x1f\x44\x45\xb0\x4b\x16\x02\x18\xa2\x80\x9c\xfd"
+            ),
+            *b"\xf0\x0f\x06\x98\xc3\xe1\xcb\x7a\xd8\xa4\x32\xf0\x79\x1c\x06\xb2"
+        );
+    }
+}

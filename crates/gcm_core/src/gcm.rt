@@ -1,0 +1,169 @@
+// GCM over a key schedule and its hash subkey, with a nonce of 12 bytes (SP 800-38D). A key of another
+// size is another schedule.
+
+ghost use Rattle.std.specs.Prelude.{◌≡◌, ◌↔◌, ◌+◌, ◌-◌, ◌*◌, ◌^◌, ◌<◌, ◌≤◌, ◌++◌, ◌≢◌, ◌⊎◌, IsErr, IsTrue, None, OnErr, OnOk, Some, length, replicate};
+ghost use Rattle.gcm_core.specs.Aes.{cipher, xor_bytes};
+ghost use Rattle.gcm_core.specs.Gcm.{gcm_ad, gcm_ae, gctr, inc32, j0, tag_of};
+ghost use Rattle.gcm_core.specs.Ghash.{polynomial_of};
+
+use crate::aes::{BLOCK_LEN, Block, cipher};
+use crate::error::{NotAuthentic, TooLong};
+use crate::ghash::{ghash, polynomial_of};
+
+// The bytes of a nonce, which stand before the counter in a counter block.
+const NONCE_LEN: usize = 12;
+
+type Nonce = [u8; NONCE_LEN];
+
+type Tag = [u8; BLOCK_LEN];
+
+// The longest text, in bytes.
+const TEXT_LIMIT: usize = (1 << 36) - 32;
+
+// The longest associated data, in bytes.
+const AAD_LIMIT: usize = 1 << 60;
+
+// The polynomial of the hash subkey.
+pub(crate) fn hash_subkey(round_keys: &[u8]) -> u128
+    requires { 32 ≤ length round_keys.now }
+    ensures { result ≡ polynomial_of (cipher round_keys.now (replicate 16 0)) }
+{
+    polynomial_of(cipher(round_keys, [0; BLOCK_LEN]))
+}
+
+// The next counter block: the count in the last four bytes, modulo 2^32.
+fn inc32(block: &mut Block)
+    ensures { block.new ≡ inc32 block.old }
+{
+    let count = u32::from_be_bytes([block[12], block[13], block[14], block[15]]);
+    block[NONCE_LEN..].copy_from_slice(&count.wrapping_add(1).to_be_bytes());
+}
+
+// J0: the nonce and the count 1.
+fn start_block(nonce: &Nonce) -> Block
+    ensures { result ≡ j0 nonce.now }
+{
+    let mut block = [0; BLOCK_LEN];
+    block[..NONCE_LEN].copy_from_slice(nonce);
+    block[BLOCK_LEN - 1] = 1;
+    block
+}
+
+// The counter block of a text's first block: the one after J0.
+fn text_start(nonce: &Nonce) -> Block
+    ensures { result ≡ inc32 (j0 nonce.now) }
+{
+    let mut block = start_block(nonce);
+    inc32(&mut block);
+    block
+}
+
+fn xor_in_place(text: &mut [u8], stream: Block)
+    requires { length text.old ≤ 16 }
+    ensures { text.new ≡ xor_bytes text.old stream }
+{
+    for i in 0..text.len() {
+        text[i] ^= stream[i];
+    }
+}
+
+// GCTR from the counter block `icb`.
+fn gctr(round_keys: &[u8], icb: Block, text: &mut [u8])
+    requires { 32 ≤ length round_keys.now }
+    ensures { text.new ≡ gctr (cipher round_keys.now) icb text.old }
+{
+    let mut counter = icb;
+    for i in 0..text.len().div_ceil(BLOCK_LEN) {
+        let start = BLOCK_LEN * i;
+        let end = text.len().min(start + BLOCK_LEN);
+        let stream = cipher(round_keys, counter);
+        xor_in_place(&mut text[start..end], stream);
+        inc32(&mut counter);
+    }
+}
+
+fn tag_of(round_keys: &[u8], subkey: u128, nonce: &Nonce, aad: &[u8], text: &[u8]) -> Tag
+    requires schedule { 32 ≤ length round_keys.now }
+    requires subkey { subkey ≡ polynomial_of (cipher round_keys.now (replicate 16 0)) }
+    requires aad { length aad.now < 2 ^ 61 }
+    requires text { length text.now < 2 ^ 61 }
+    ensures { result ≡ tag_of (cipher round_keys.now) nonce.now aad.now text.now }
+{
+    let mut tag = ghash(subkey, aad, text);
+    gctr(round_keys, start_block(nonce), &mut tag);
+    tag
+}
+
+// Whether the tags are equal, by all of their bytes.
+fn is_same_tag(a: &Tag, b: &Tag) -> bool
+    ensures { IsTrue result ↔ (a.now ≡ b.now) }
+{
+    let mut difference = 0;
+    for i in 0..BLOCK_LEN {
+        difference |= a[i] ^ b[i];
+    }
+    difference == 0
+}
+
+// Whether both lengths keep the limits of GCM.
+fn is_within_limits(aad: &[u8], text: &[u8]) -> bool
+    ensures { IsTrue result ↔ ((length text.now ≤ 2 ^ 36 - 32) × (length aad.now ≤ 2 ^ 60)) }
+{
+    text.len() <= TEXT_LIMIT && aad.len() <= AAD_LIMIT
+}
+
+// Seals the text in `buf` in place, and writes its tag.
+pub(crate) fn seal(
+    round_keys: &[u8],
+    subkey: u128,
+    nonce: &Nonce,
+    aad: &[u8],
+    buf: &mut [u8],
+    tag: &mut Tag,
+) -> Result<(), TooLong>
+    requires schedule { 32 ≤ length round_keys.now }
+    requires subkey { subkey ≡ polynomial_of (cipher round_keys.now (replicate 16 0)) }
+    ensures sealed { OnOk result
+        (gcm_ae (cipher round_keys.now) nonce.now aad.now buf.old ≡ Some (buf.new ++ tag.new)) }
+    ensures refused { IsErr result
+        ↔ (gcm_ae (cipher round_keys.now) nonce.now aad.now buf.old ≡ None) }
+    ensures too_long { IsErr result ↔ ((2 ^ 36 - 32 < length buf.old) ⊎ (2 ^ 60 < length aad.now)) }
+    ensures unchanged { OnErr result ((buf.new ≡ buf.old) × (tag.new ≡ tag.old)) }
+{
+    if !is_within_limits(aad, buf) {
+        return Err(TooLong);
+    }
+    gctr(round_keys, text_start(nonce), buf);
+    *tag = tag_of(round_keys, subkey, nonce, aad, buf);
+    Ok(())
+}
+
+// Opens the ciphertext in `buf` in place, if `tag` is its tag.
+pub(crate) fn open(
+    round_keys: &[u8],
+    subkey: u128,
+    nonce: &Nonce,
+    aad: &[u8],
+    buf: &mut [u8],
+    tag: &Tag,
+) -> Result<(), NotAuthentic>
+    requires schedule { 32 ≤ length round_keys.now }
+    requires subkey { subkey ≡ polynomial_of (cipher round_keys.now (replicate 16 0)) }
+    ensures opened { OnOk result
+        (gcm_ad (cipher round_keys.now) nonce.now aad.now (buf.old ++ tag.now) ≡ Some buf.new) }
+    ensures refused { IsErr result
+        ↔ (gcm_ad (cipher round_keys.now) nonce.now aad.now (buf.old ++ tag.now) ≡ None) }
+    ensures not_authentic { IsErr result ↔ ((2 ^ 36 - 32 < length buf.old) ⊎ (2 ^ 60 < length aad.now)
+        ⊎ (tag.now ≢ tag_of (cipher round_keys.now) nonce.now aad.now buf.old)) }
+    ensures unchanged { OnErr result (buf.new ≡ buf.old) }
+{
+    if !is_within_limits(aad, buf) {
+        return Err(NotAuthentic);
+    }
+    let expected = tag_of(round_keys, subkey, nonce, aad, buf);
+    if !is_same_tag(tag, &expected) {
+        return Err(NotAuthentic);
+    }
+    gctr(round_keys, text_start(nonce), buf);
+    Ok(())
+}

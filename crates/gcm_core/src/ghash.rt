@@ -1,0 +1,113 @@
+// GHASH over associated data and a ciphertext (SP 800-38D, section 6.4).
+
+ghost use Rattle.std.specs.Prelude.{◌≡◌, ◌+◌, ◌*◌, ◌/◌, ◌%◌, ◌^◌, ◌<◌, ◌++◌, bit_xor, drop, length, take};
+ghost use Rattle.std.specs.Int.{div_ceil, to_be_bytes, w64};
+ghost use Rattle.gcm_core.specs.FieldMul.{times_x};
+ghost use Rattle.gcm_core.specs.Gcm.{authenticated, padded};
+ghost use Rattle.gcm_core.specs.Ghash.{block_of, block_product, continued, polynomial_of, polynomials, reduction_block, weighted_sum};
+
+use crate::aes::{BLOCK_LEN, Block};
+
+// The coefficients of an element of GF(2^128).
+const DEGREE: u32 = 128;
+
+// What x^128 is modulo the field's polynomial x^128 + x^7 + x^2 + x + 1.
+const REDUCTION: u128 = 0x87;
+
+// The bits of a byte.
+const BYTE_BITS: u64 = 8;
+
+// The bytes of each length in the last block.
+const LENGTH_LEN: usize = 8;
+
+fn times_x(p: u128) -> u128
+    ensures { result ≡ times_x 128 reduction_block p }
+{
+    if p >> (DEGREE - 1) == 0 {
+        p << 1
+    } else {
+        (p << 1) ^ REDUCTION
+    }
+}
+
+// From the highest coefficient of `a` down.
+fn block_product(a: u128, b: u128) -> u128
+    ensures { result ≡ block_product a b }
+{
+    let mut product = 0;
+    for i in 0..DEGREE {
+        product = times_x(product);
+        if (a >> (DEGREE - 1 - i)) & 1 == 1 {
+            product ^= b;
+        }
+    }
+    product
+}
+
+// The polynomial of a block, whose bit i is the coefficient of x^i.
+pub(crate) fn polynomial_of(block: Block) -> u128
+    ensures { result ≡ polynomial_of block }
+{
+    u128::from_be_bytes(block).reverse_bits()
+}
+
+fn block_of(polynomial: u128) -> Block
+    ensures { result ≡ block_of polynomial }
+{
+    polynomial.reverse_bits().to_be_bytes()
+}
+
+// One block more, by Horner's rule.
+fn absorb_block(subkey: u128, sum: u128, block: Block) -> u128
+    ensures { result ≡ block_product (bit_xor sum (polynomial_of block)) subkey }
+{
+    block_product(sum ^ polynomial_of(block), subkey)
+}
+
+// The block of the bytes from `start` on, with zeros behind a short one.
+fn padded_block(bytes: &[u8], start: usize) -> Block
+    requires within { start < length bytes.now }
+    requires at_block { start % 16 ≡ 0 }
+    ensures { result ≡ take 16 (drop start (padded bytes.now)) }
+{
+    let mut block = [0; BLOCK_LEN];
+    let rest = &bytes[start..];
+    let count = rest.len().min(BLOCK_LEN);
+    block[..count].copy_from_slice(&rest[..count]);
+    block
+}
+
+// The blocks of the padded bytes, after those that gave the sum `earlier`.
+fn absorb(subkey: u128, earlier: u128, bytes: &[u8]) -> u128
+    ensures { result ≡ continued subkey earlier
+        (polynomials (div_ceil (length bytes.now) 16) (padded bytes.now)) }
+{
+    let mut sum = earlier;
+    for i in 0..bytes.len().div_ceil(BLOCK_LEN) {
+        sum = absorb_block(subkey, sum, padded_block(bytes, BLOCK_LEN * i));
+    }
+    sum
+}
+
+// The last block: both lengths in bits.
+fn length_block(aad_len: usize, text_len: usize) -> Block
+    requires aad { aad_len < 2 ^ 61 }
+    requires text { text_len < 2 ^ 61 }
+    ensures { result ≡ to_be_bytes w64 (8 * aad_len) ++ to_be_bytes w64 (8 * text_len) }
+{
+    let mut block = [0; BLOCK_LEN];
+    block[..LENGTH_LEN].copy_from_slice(&(BYTE_BITS * aad_len as u64).to_be_bytes());
+    block[LENGTH_LEN..].copy_from_slice(&(BYTE_BITS * text_len as u64).to_be_bytes());
+    block
+}
+
+// GHASH, under the polynomial of the hash subkey, of all that a tag authenticates.
+pub(crate) fn ghash(subkey: u128, aad: &[u8], text: &[u8]) -> Block
+    requires aad { length aad.now < 2 ^ 61 }
+    requires text { length text.now < 2 ^ 61 }
+    ensures { let x = authenticated aad.now text.now
+        in result ≡ block_of (weighted_sum subkey (polynomials (length x / 16) x)) }
+{
+    let sum = absorb(subkey, absorb(subkey, 0, aad), text);
+    block_of(absorb_block(subkey, sum, length_block(aad.len(), text.len())))
+}

@@ -1,0 +1,15 @@
+// AES-256-GCM: authenticated encryption with associated data, in place and without memory
+// (FIPS 197, NIST SP 800-38D).
+#![tactic(auto)]
+
+mod aes;
+mod aes_gcm;
+mod error;
+mod gcm;
+mod ghash;
+pub mod laws;
+#[cfg(test)]
+mod tests;
+
+pub use aes_gcm::AesGcm256Impl;
+pub use error::{NotAuthentic, TooLong};
