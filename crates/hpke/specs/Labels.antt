@@ -1,5 +1,5 @@
 -- The labeled functions of RFC 9180, section 4, over a hash function and the length of its blocks.
-use Rattle.std.specs.Prelude.{ℕ, List, ◌++◌, codes}
+use Rattle.std.specs.Prelude.{ℕ, List, [], ◌++◌, codes}
 use Rattle.hkdf_core.specs.Hkdf.{extract, expand}
 use Rattle.hpke.specs.Bytes.{two_bytes}
 
@@ -22,3 +22,8 @@ labeled_extract hash block_size salt suite label ikm = extract hash block_size s
 -- LabeledExpand(prk, label, info, L)
 abbrev pub labeled_expand : (List ℕ → List ℕ) → ℕ → List ℕ → List ℕ → List ℕ → List ℕ → ℕ → List ℕ
 labeled_expand hash block_size prk suite label info len = expand hash block_size prk (two_bytes len ++ version ++ suite ++ label ++ info) len
+
+-- ExtractAndExpand(dh, kem_context), with L (section 4.1)
+abbrev pub extract_and_expand : (List ℕ → List ℕ) → ℕ → List ℕ → List ℕ → List ℕ → ℕ → List ℕ
+extract_and_expand hash block_size ikm suite info len =
+    labeled_expand hash block_size (labeled_extract hash block_size [] suite (codes "eae_prk") ikm) suite (codes "shared_secret") info len

@@ -6,6 +6,8 @@ pub mod Refusals
 pub mod Answers
 -- LabeledExtract and LabeledExpand (RFC 9180, section 4)
 pub mod Labels
+-- the key schedule, and contexts (RFC 9180, section 5.1)
+pub mod Schedule
 -- the test KEM
 pub mod Mask
 -- the laws of the test KEM: proofs, and no definitions

@@ -1,11 +1,11 @@
 //! Key encapsulation mechanisms (RFC 9180, section 4).
 
-ghost use Rattle.std.specs.Prelude.{◌≡◌, ◌≤◌, ℕ, List, length, Option, None, Some, IfOk, IsSome, is_some};
+ghost use Rattle.std.specs.Prelude.{◌≡◌, ◌⊎◌, ℕ, List, length, Option, None, Some, Err, IfOk, IsSome, is_some};
 ghost use Rattle.std.specs.Option.{option_map};
 ghost use Rattle.rand_core.specs.Stream.{fill_bytes};
 ghost use Rattle.hpke.specs.Answers.{Answers, both};
 ghost use Rattle.hpke.specs.Bytes.{IsBytes};
-ghost use Rattle.hpke.specs.declared.error.HpkeError.TheVariants.{DecapError, EncapError};
+ghost use Rattle.hpke.specs.declared.error.HpkeError.TheVariants.{DecapError, EncapError, NoMemory, ValidationError};
 
 use crate::error::HpkeError;
 use crate::secret::{SecretSize, SharedSecret};
@@ -16,10 +16,10 @@ use std::alloc::{AllocError, Global};
 /// A key encapsulation mechanism. Contracts see a key by its bytes.
 pub trait Kem: SecretSize + Sized {
     /// What a sender encapsulates to.
-    type PublicKey: Deserializable + Drop;
+    type PublicKey: Deserializable + Drop + 'static;
 
     /// What a recipient decapsulates with.
-    type PrivateKey: Deserializable + Drop;
+    type PrivateKey: Deserializable + Drop + 'static;
 
     /// What a sender sends to the recipient.
     type EncappedKey: Deserializable + Drop;
@@ -46,6 +46,34 @@ pub trait Kem: SecretSize + Sized {
     /// The public key of a private key. The only error is want of memory.
     fn sk_to_pk(alloc: Global, sk: &Self::PrivateKey) -> Result<Self::PublicKey, AllocError>
         ensures { IfOk result (λ pk. Self.PublicKey.bytes pk ≡ pk_of (Self.PrivateKey.bytes sk.now)) };
+
+    /// The pair of keys that input keying material gives (RFC 9180, section 4).
+    ///
+    /// `ValidationError` comes exactly where `derive_of` is none.
+    fn derive_keypair(
+        alloc: Global,
+        ikm: &[u8],
+    ) -> Result<(Self::PrivateKey, Self::PublicKey), HpkeError>
+        ensures { Answers (λ pair. (Self.PrivateKey.bytes pair.0, Self.PublicKey.bytes pair.1)) ValidationError result
+            (derive_of ikm.now) };
+
+    /// A pair of keys by input keying material that is drawn, of as many bytes as a private key has,
+    /// by one call of `fill_bytes`. Where memory runs out before, nothing is drawn.
+    ///
+    /// `ValidationError` comes exactly where `derive_of` of the bytes drawn is none.
+    fn gen_keypair<R: Rng>(
+        alloc: Global,
+        csprng: &mut R,
+    ) -> Result<(Self::PrivateKey, Self::PublicKey), HpkeError>
+        ensures drawn { (R.stream csprng.new ≡ (fill_bytes Self.PrivateKey.wire_size (R.stream csprng.old)).1)
+            ⊎ ((result ≡ Err NoMemory) × (R.stream csprng.new ≡ R.stream csprng.old)) }
+        ensures value { Answers (λ pair. (Self.PrivateKey.bytes pair.0, Self.PublicKey.bytes pair.1)) ValidationError result
+            (derive_of (fill_bytes Self.PrivateKey.wire_size (R.stream csprng.old)).0) }
+    {
+        let mut ikm = vec![in alloc; 0; Self::PrivateKey::size()]?;
+        csprng.fill_bytes(ikm.as_mut_slice());
+        Self::derive_keypair(alloc, ikm.as_slice())
+    }
 
     /// The secret in an encapsulated key, with or without a sender's identity.
     ///
@@ -76,9 +104,9 @@ pub trait Kem: SecretSize + Sized {
         ensures drawn { R.stream csprng.new ≡ (fill_bytes 32 (R.stream csprng.old)).1 }
         ensures value { Answers (λ made. (made.0, Self.EncappedKey.bytes made.1)) EncapError result
             (encap_of (Self.PublicKey.bytes pk_recip.now)
-                (both (option_map (λ sk. Self.PrivateKey.bytes sk.now) sk_sender_id.entry)
-                    (option_map (λ pk. Self.PublicKey.bytes pk.now) pk_sender_id.entry))
-                (fill_bytes 32 (R.stream csprng.old)).0) };
+            (both (option_map (λ sk. Self.PrivateKey.bytes sk.now) sk_sender_id.entry)
+            (option_map (λ pk. Self.PublicKey.bytes pk.now) pk_sender_id.entry))
+            (fill_bytes 32 (R.stream csprng.old)).0) };
 
     // A secret is of one length.
     ghost decap_size: { (sk : List ℕ) (sender : Option (List ℕ)) (enc secret : List ℕ) → Self.PrivateKey.has_value sk

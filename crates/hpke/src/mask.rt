@@ -1,9 +1,10 @@
 //! A KEM for tests, which has no secrecy.
 
 ghost use Rattle.std.specs.Prelude.{◌≡◌, length};
-ghost use Rattle.hpke.specs.Mask.{masked, mask_public, mask_decap, mask_encap, mask_derive};
+ghost use Rattle.hpke.specs.Mask.{masked, mask_key, mask_public, mask_decap, mask_encap, mask_derive};
 
 use crate::error::HpkeError;
+use crate::kdf::{HkdfSha256, expand_short, kem_suite_id, labeled_extract};
 use crate::kem::Kem;
 use crate::secret::{SecretSize, SharedSecret};
 use crate::serial::{Deserializable, Serializable};
@@ -13,6 +14,9 @@ use std::marker::Model;
 
 /// How many bytes a key, an encapsulated key and a secret have.
 const MASK_LEN: usize = 32;
+
+/// The identifier of the KEM.
+const MASK_KEM_ID: u16 = 0xFF00;
 
 /// A public key, a private key or an encapsulated key of [`MaskKem`]: any 32 bytes.
 #[derive(Drop)]
@@ -80,7 +84,7 @@ impl Kem for MaskKem {
 
     type EncappedKey = MaskKey;
 
-    const KEM_ID: u16 = 0xFF00;
+    const KEM_ID: u16 = MASK_KEM_ID;
 
     ghost KEM_ID = { 0xFF00 };
 
@@ -94,6 +98,11 @@ impl Kem for MaskKem {
 
     fn sk_to_pk(_alloc: Global, sk: &MaskKey) -> Result<MaskKey, AllocError> {
         Ok(MaskKey { bytes: sk.bytes })
+    }
+
+    fn derive_keypair(_alloc: Global, ikm: &[u8]) -> Result<(MaskKey, MaskKey), HpkeError> {
+        let bytes = derive_key(ikm);
+        Ok((MaskKey { bytes }, MaskKey { bytes }))
     }
 
     fn decap(
@@ -132,6 +141,18 @@ impl Kem for MaskKem {
     ghost decap_without_sender = { λ _ _ _ _. refl };
 
     ghost encapped_key_any = { λ _ bytes size. (size, bytes) };
+}
+
+/// The key of input keying material.
+fn derive_key(ikm: &[u8]) -> [u8; MASK_LEN]
+    ensures { result ≡ mask_key ikm.now }
+{
+    let suite_id = kem_suite_id(MASK_KEM_ID);
+    let (_prk, hkdf) = labeled_extract::<HkdfSha256>(&[], &suite_id, b"dkp_prk", ikm);
+    let key = expand_short(&hkdf, &suite_id, b"sk", &[], MASK_LEN);
+    let mut bytes = [0; MASK_LEN];
+    bytes.copy_from_slice(key.as_slice());
+    bytes
 }
 
 /// Two keys, XORed place by place.

@@ -56,7 +56,6 @@ impl<K: SecretSize> SharedSecret<K> {
             kem: PhantomData,
         }
     }
-
 }
 
 impl<K> SharedSecret<K> {

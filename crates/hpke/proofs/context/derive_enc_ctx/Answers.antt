@@ -1,0 +1,32 @@
+use Rattle.std.proofs.Common.{◌≡◌, ◌∙◌}
+use Rattle.hpke.specs.Labels.{hpke_suite}
+use Rattle.hpke.specs.Schedule.{Suite, schedule_context}
+use Rattle.hpke.proofs.Schedules.{schedule-is, schedule_context-is}
+use Rattle.hpke.proofs.context.derive_enc_ctx.Goals as goal
+
+pub returns : goal.returns
+returns g c =
+    let suite : Suite = record {
+      hash = g.D.HashImpl.HkdfHash.hash_of;
+      block_size = g.D.HashImpl.HkdfHash.BLOCK_SIZE;
+      digest_size = g.D.HashImpl.HkdfHash.DIGEST_SIZE;
+      key_size = g.A.AeadImpl.BaseAead.KEY_SIZE;
+      nonce_size = g.A.AeadImpl.BaseAead.NONCE_SIZE;
+      kem_id = g.K.Kem.KEM_ID;
+      kdf_id = g.D.Kdf.KDF_ID;
+      aead_id = g.A.Aead.AEAD_ID;
+    } in
+    let ids : c.hpke_suite_id-suite_id.result ≡ hpke_suite suite.kem_id suite.kdf_id suite.aead_id =
+    cc (c.hpke_suite_id-suite_id.ensures, c.KEM_ID.ensures, c.KDF_ID.ensures, c.AEAD_ID.ensures) in
+    let whole : c.schedule_context-context.result ≡ schedule_context suite c.args.mode c.args.info.now c.args.psk_id.now =
+    schedule_context-is suite c.args.mode c.args.info.now c.args.psk_id.now c.hpke_suite_id-suite_id.result
+    c.labeled_extract-psk_id_hash.result.0 c.labeled_extract-info_hash.result.0 c.schedule_context-context.result
+    ids c.labeled_extract-psk_id_hash.ensures.prk c.labeled_extract-info_hash.ensures.prk c.schedule_context-context.ensures in
+    let key : g.A.AeadImpl.BaseAead.key_of c.new.result ≡ c.expand_short-key.result = c.new.ensures ∙ c.as_slice.ensures in
+    rw key (schedule-is suite c.args.mode c.args.shared_secret.now c.args.info.now c.args.psk.now c.args.psk_id.now
+    c.hpke_suite_id-suite_id.result c.as_slice-info.result.now c.labeled_extract-secret.result.1
+    c.expand_short-key.result c.expand_short.result c.expand_short-2.result
+    c.KEY_SIZE.result c.NONCE_SIZE.result c.DIGEST_SIZE.result
+    c.KEY_SIZE.ensures c.NONCE_SIZE.ensures c.DIGEST_SIZE.ensures
+    ids (c.as_slice-info.ensures ∙ whole) c.labeled_extract-secret.ensures.hkdf
+    c.expand_short-key.ensures.output c.expand_short.ensures.output c.expand_short-2.ensures.output)

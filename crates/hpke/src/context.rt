@@ -1,0 +1,165 @@
+//! The contexts that a setup gives both sides (RFC 9180, sections 5.1 and 5.2).
+
+ghost use Rattle.std.specs.Prelude.{◌≡◌, ◌≤◌, ◌∷◌, ◌++◌, length, None, Some};
+ghost use Rattle.hpke.specs.Schedule.{Suite, schedule, schedule_context};
+
+use crate::aead::{Aead, BaseAead};
+use crate::kdf::{Kdf, expand_short, hpke_suite_id, labeled_extract};
+use crate::kem::Kem;
+use crate::short::ShortBytes;
+use hkdf_core::{DigestBytes, HkdfHash, MAX_DIGEST_SIZE};
+use std::marker::{Model, PhantomData};
+
+/// What the contexts of both sides hold. Contracts see the key, the base nonce, the exporter secret
+/// and the number of the next message, or none once the last number was used.
+#[derive(Drop)]
+pub struct AeadCtx<A: Aead, D, K> {
+    encryptor: A::AeadImpl,
+    base_nonce: ShortBytes,
+    exporter_secret: ShortBytes,
+    number: Option<u64>,
+    kdf: PhantomData<D>,
+    kem: PhantomData<K>,
+}
+
+impl<A: Aead, D, K> Model for AeadCtx<A, D, K> {
+    ghost use Rattle.std.specs.Prelude.{◌≡◌, length};
+    ghost use Rattle.hpke.specs.Schedule.{Context};
+
+    ghost Value = { Context };
+
+    ghost view = { λ ctx. record {
+      key = A.AeadImpl.key_of ctx.encryptor;
+      base_nonce = ctx.base_nonce;
+      exporter_secret = ctx.exporter_secret;
+      next = ctx.number;
+    } };
+
+    ghost invariant = { λ ctx. length ctx.base_nonce ≡ A.AeadImpl.NONCE_SIZE };
+}
+
+impl<A: Aead, D, K> AeadCtx<A, D, K> {
+    /// The number of the next message.
+    fn number(&self) -> Option<u64>
+        ensures { result ≡ self.now.next }
+    {
+        self.number
+    }
+}
+
+/// A sender's context. Contracts see the key, the base nonce, the exporter secret and the number of
+/// the next message, or none once the last number was used.
+#[derive(Drop)]
+pub struct AeadCtxS<A: Aead, D, K> {
+    ctx: AeadCtx<A, D, K>,
+}
+
+impl<A: Aead, D, K> Model for AeadCtxS<A, D, K> {
+    ghost use Rattle.hpke.specs.Schedule.{Context};
+
+    ghost Value = { Context };
+
+    ghost view = { λ sender. sender.ctx };
+}
+
+impl<A: Aead, D, K> AeadCtxS<A, D, K> {
+    pub(crate) fn new(ctx: AeadCtx<A, D, K>) -> AeadCtxS<A, D, K>
+        ensures { result ≡ ctx }
+    {
+        AeadCtxS { ctx }
+    }
+
+    /// The number of the next message, or none once the last number, `u64::MAX`, was used.
+    pub fn number(&self) -> Option<u64>
+        ensures { result ≡ self.now.next }
+    {
+        self.ctx.number()
+    }
+}
+
+/// A recipient's context. Contracts see the key, the base nonce, the exporter secret and the number
+/// of the next message, or none once the last number was used.
+#[derive(Drop)]
+pub struct AeadCtxR<A: Aead, D, K> {
+    ctx: AeadCtx<A, D, K>,
+}
+
+impl<A: Aead, D, K> Model for AeadCtxR<A, D, K> {
+    ghost use Rattle.hpke.specs.Schedule.{Context};
+
+    ghost Value = { Context };
+
+    ghost view = { λ recipient. recipient.ctx };
+}
+
+impl<A: Aead, D, K> AeadCtxR<A, D, K> {
+    pub(crate) fn new(ctx: AeadCtx<A, D, K>) -> AeadCtxR<A, D, K>
+        ensures { result ≡ ctx }
+    {
+        AeadCtxR { ctx }
+    }
+
+    /// The number of the next message, or none once the last number, `u64::MAX`, was used.
+    pub fn number(&self) -> Option<u64>
+        ensures { result ≡ self.now.next }
+    {
+        self.ctx.number()
+    }
+}
+
+/// The context that the key schedule gives, at number 0 (RFC 9180, section 5.1).
+pub fn derive_enc_ctx<A: Aead, D: Kdf, K: Kem>(
+    mode: u8,
+    shared_secret: &[u8],
+    info: &[u8],
+    psk: &[u8],
+    psk_id: &[u8],
+) -> AeadCtx<A, D, K>
+    ensures { let suite : Suite = record {
+      hash = D.HashImpl.hash_of;
+      block_size = D.HashImpl.BLOCK_SIZE;
+      digest_size = D.HashImpl.DIGEST_SIZE;
+      key_size = A.AeadImpl.KEY_SIZE;
+      nonce_size = A.AeadImpl.NONCE_SIZE;
+      kem_id = K.KEM_ID;
+      kdf_id = D.KDF_ID;
+      aead_id = A.AEAD_ID;
+    } in result ≡ schedule suite mode shared_secret.now info.now psk.now psk_id.now }
+{
+    let suite_id = hpke_suite_id(K::KEM_ID, D::KDF_ID, A::AEAD_ID);
+    let (psk_id_hash, _) = labeled_extract::<D>(&[], &suite_id, b"psk_id_hash", psk_id);
+    let (info_hash, _) = labeled_extract::<D>(&[], &suite_id, b"info_hash", info);
+    let context = schedule_context(mode, &psk_id_hash, &info_hash);
+    let (_, secret) = labeled_extract::<D>(shared_secret, &suite_id, b"secret", psk);
+    let info = context.as_slice();
+    let key = expand_short(&secret, &suite_id, b"key", info, A::AeadImpl::KEY_SIZE);
+    AeadCtx {
+        encryptor: A::AeadImpl::new(key.as_slice()),
+        base_nonce: expand_short(
+            &secret,
+            &suite_id,
+            b"base_nonce",
+            info,
+            A::AeadImpl::NONCE_SIZE,
+        ),
+        exporter_secret: expand_short(&secret, &suite_id, b"exp", info, D::HashImpl::DIGEST_SIZE),
+        number: Some(0),
+        kdf: PhantomData,
+        kem: PhantomData,
+    }
+}
+
+// The context of the key schedule: the mode and the hashes of both texts.
+fn schedule_context(mode: u8, psk_id_hash: &DigestBytes, info_hash: &DigestBytes) -> ShortBytes
+    requires psk_id_size { length psk_id_hash.now ≤ MAX_DIGEST_SIZE }
+    requires info_size { length info_hash.now ≤ MAX_DIGEST_SIZE }
+    ensures { result ≡ mode ∷ psk_id_hash.now ++ info_hash.now }
+{
+    let mut context = ShortBytes::from_slice(&[mode]);
+    context.append(psk_id_hash.as_slice());
+    context.append(info_hash.as_slice());
+    context
+}
+
+#[cfg(test)]
+mod tests;

@@ -1,0 +1,17 @@
+//! What holds of the definitions that the contracts of this crate cite.
+
+ghost use Rattle.std.specs.Prelude.{◌≡◌, ℕ, List, Option, Some};
+ghost use Rattle.std.specs.Option.{option_map};
+ghost use Rattle.hpke.specs.Schedule.{Suite, sender_setup, receiver_setup};
+
+use crate::kem::Kem;
+
+/// Where decapsulation gives the secret that encapsulation gave, and mode, info and pre-shared key
+/// are the same, both sides have the same context (RFC 9180, section 5.1).
+pub fn same_context<K: Kem>()
+    ensures { (suite : Suite) (mode : ℕ) (info psk psk_id pk sk draw shared enc : List ℕ)
+        (identity : Option (List ℕ × List ℕ)) (sender : Option (List ℕ))
+        → K.encap_of pk identity draw ≡ Some (shared, enc) → K.decap_of sk sender enc ≡ Some shared
+        → receiver_setup suite mode info psk psk_id (K.decap_of sk sender enc)
+        ≡ option_map (λ made. made.1) (sender_setup suite mode info psk psk_id (K.encap_of pk identity draw)) }
+{}
