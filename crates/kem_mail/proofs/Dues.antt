@@ -1,9 +1,9 @@
 -- No words and text have two due answers.
-use Rattle.std.proofs.Common.{◌≡◌, ◌≢◌, ℕ, List, [], sym, ap, ◌∙◌, ◌⊎◌, inl, inr}
+use Rattle.std.proofs.Common.{◌≡◌, ℕ, List, [], sym, ap, ◌∙◌, inl, inr}
 use Rattle.std.specs.Prelude.{codes}
 use Rattle.kem_mail.specs.Mail.{bodies}
 use Rattle.kem_mail.specs.Lines.{lines}
-use Rattle.kem_mail.specs.Due.{Due, HoldsMail, IsOpened, IsNoCommand, IsNoMail}
+use Rattle.kem_mail.specs.Due.{Due, HoldsMail}
 use Rattle.kem_mail.proofs.Runs.{judged_none}
 
 -- the messages of a mail

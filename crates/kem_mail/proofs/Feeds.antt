@@ -1,7 +1,5 @@
 -- Where the first line feed of a text stands.
-use Rattle.std.proofs.Common.{◌≡◌, ◌≢◌, ℕ, zero, suc, ◌+◌, ◌<◌, ◌≤◌, List, [], ◌∷◌, ◌++◌, length, refl, sym, ap, ◌∙◌, append_assoc, arith}
-use Rattle.std.specs.List.{AllByRecursion}
-use Rattle.std.proofs.lemmas.List.{append-nil, length_push}
+use Rattle.std.proofs.Common.{◌≡◌, ◌≢◌, ℕ, ◌<◌, List, [], ◌∷◌, ◌++◌, length, refl, sym, arith}
 use Rattle.kem_mail.specs.Taking.{NoFeed}
 
 pub NoFeed-push : (line : List ℕ) (b : ℕ) → NoFeed line → b ≢ 10 → NoFeed (line ++ b ∷ [])

@@ -1,7 +1,7 @@
 -- Where a text has a head, and where it has none.
-use Rattle.std.proofs.Common.{◌≡◌, ◌≢◌, ℕ, zero, suc, ◌+◌, ◌<◌, ◌≤◌, true, List, [], ◌∷◌, ◌++◌, length, Option, Some, None, Ok, refl, sym, ap, subst, ◌∙◌, arith}
-use Rattle.std.specs.Prelude.{IfSome, is_ok}
-use Rattle.std.specs.List.{AllByRecursion, AllPass}
+use Rattle.std.proofs.Common.{◌≡◌, ℕ, true, List, [], ◌∷◌, ◌++◌, length, Option, Some, None, Ok, sym, ap, subst, ◌∙◌, arith}
+use Rattle.std.specs.Prelude.{IfSome}
+use Rattle.std.specs.List.{AllByRecursion}
 use Rattle.std.proofs.lemmas.List.Elements.{recursion_from_All}
 use Rattle.hex.specs.Hex.{decode_of, is_hex_digit}
 use Rattle.hex.proofs.HexLemmas.{decode_of-ok}
@@ -48,16 +48,19 @@ module _ (text : List ℕ) where
   a_head : (line second seed info : List ℕ) (now later : Option (List ℕ)) → TookLine 128 text now (Some line) → SpellsSeed line (Some seed) → IfSome now (λ behind. TookLine 8192 behind later (Some second)) → SpellsInfo second (Some info)
       → (rest : List ℕ) × IsHead text seed info rest × (later ≡ Some rest)
   a_head line second seed info now later took spells next info_is =
-      let behind = subst (λ (o : Option (List ℕ)). IfSome o (λ t. TookLine 8192 t later (Some second))) took.2 next in
-      (behind.0, record {
-        seed_digits = line;
-        info_digits = second;
-        whole = took.1 ∙ ap (λ (t : List ℕ). line ++ 10 ∷ t) behind.1;
-        seed_size = spells.0;
-        info_size = behind.4;
-        seed_is = spells.1;
-        info_is = info_is;
-      }, behind.2)
+      let behind = subst (λ (o : Option (List ℕ)). IfSome o (λ t. TookLine 8192 t later (Some second))) took.2 next in (
+        behind.0,
+        record {
+          seed_digits = line;
+          info_digits = second;
+          whole = took.1 ∙ ap (λ (t : List ℕ). line ++ 10 ∷ t) behind.1;
+          seed_size = spells.0;
+          info_size = behind.4;
+          seed_is = spells.1;
+          info_is = info_is;
+        },
+        behind.2,
+      )
 
 -- ---- where the source tells its bytes
 

@@ -1,12 +1,12 @@
 -- From the stanzas of what is held to the reading of the text.
-use Rattle.std.proofs.Common.{◌≡◌, ◌≢◌, ℕ, ◌+◌, ◌<◌, ◌≤◌, List, [], ◌∷◌, ◌++◌, length, take, drop, map, Option, Some, None, refl, sym, ap, subst, ◌∙◌, append_assoc, arith}
+use Rattle.std.proofs.Common.{◌≡◌, ℕ, List, [], ◌∷◌, ◌++◌, length, take, drop, Option, Some, None, sym, ap, subst, ◌∙◌, append_assoc}
 use Rattle.std.specs.Prelude.{IfSome, codes}
 use Rattle.std.specs.List.{flat_map, AllByRecursion}
-use Rattle.std.proofs.lemmas.List.{take-append-drop, take-take, take_all}
+use Rattle.std.proofs.lemmas.List.{take-append-drop, take-take}
 use Rattle.std.proofs.lemmas.List.Concat.{flat_map-append}
 use Rattle.std.proofs.lemmas.Option.{none-some}
 use Rattle.age_core.specs.Stanza.{Stanza, IsStanza, spelling}
-use Rattle.age_core.specs.Reading.{Splits, NoneDone, IsDone, StandsBeforeDone, HasNoDone, Reads, Before_done}
+use Rattle.age_core.specs.Reading.{Splits, NoneDone, StandsBeforeDone, HasNoDone}
 use Rattle.kem_mail.specs.Mail.{Opens, bodies, judged}
 use Rattle.kem_mail.specs.Taking.{TookFront, EndsAt}
 

@@ -1,9 +1,8 @@
 -- What a run that told a line owes.
 use Rattle.std.proofs.Common.{◌≡◌, ◌≢◌, ℕ, ◌<◌, ◌≤◌, Bool, true, false, cond, eqb, List, [], ◌∷◌, ◌++◌, length, get_or, map, Option, Some, None, refl, sym, ap, subst, ◌∙◌, arith, ◌⊎◌, inl, inr}
-use Rattle.std.specs.Prelude.{IfSome, IsErrOf, IsTrue, ◌↔◌, Err, codes}
+use Rattle.std.specs.Prelude.{IfSome, IsTrue, ◌↔◌, codes}
 use Rattle.std.proofs.lemmas.List.{append-nil}
 use Rattle.std.proofs.lemmas.Option.{none-some}
-use Rattle.kem_mail.specs.Lines.{lines}
 use Rattle.kem_mail.specs.Command.{IsOpen}
 use Rattle.kem_mail.proofs.Heads.{NoHead, one_rest}
 use Rattle.kem_mail.proofs.Opening.{NoMail}
@@ -125,9 +124,10 @@ pub spelled : (words : List (List ℕ)) (a b c d : List ℕ) (r : Bool) → word
 spelled words a b c d r is ea eb ec er =
     let first = (bytes_eq-Decides a (codes "open")).0 ea in
     let second = (bytes_eq-Decides b (codes "mask")).0 eb in
-    let third = (bytes_eq-Decides c (codes "sha256")).0 ec in
-    (λ t. is ∙ rw (first, second, third, (bytes_eq-Decides d (codes "aes256")).0 (sym er ∙ t)) refl,
-     λ open_is. er ∙ (bytes_eq-Decides d (codes "aes256")).1 (last_word a b c d (codes "open") (codes "mask") (codes "sha256") (codes "aes256") (sym is ∙ open_is)))
+    let third = (bytes_eq-Decides c (codes "sha256")).0 ec in (
+      λ t. is ∙ rw (first, second, third, (bytes_eq-Decides d (codes "aes256")).0 (sym er ∙ t)) refl,
+      λ open_is. er ∙ (bytes_eq-Decides d (codes "aes256")).1 (last_word a b c d (codes "open") (codes "mask") (codes "sha256") (codes "aes256") (sym is ∙ open_is)),
+    )
 
 -- ---- the clauses of a run
 

@@ -9,5 +9,4 @@ pub fn one_due()
         → Due words text one output → Due words text other another → one ≡ other }
     ensures output { (words : List (List ℕ)) (text : List ℕ) (one other : ℕ) (output another : List ℕ)
         → Due words text one output → Due words text other another → output ≡ another }
-{
-}
+{}

@@ -28,7 +28,11 @@ fn next_byte<S: Source>(src: &mut S) -> Result<Option<u8>, MailError>
 
 /// The next line of a source, without its line feed, read one byte a call. There is none where the
 /// source ends before a line feed, or where more than `limit` bytes stand before it.
-pub fn next_line<S: Source>(alloc: Global, src: &mut S, limit: usize) -> Result<Option<Vec<u8>>, MailError>
+pub fn next_line<S: Source>(
+    alloc: Global,
+    src: &mut S,
+    limit: usize,
+) -> Result<Option<Vec<u8>>, MailError>
     ensures line { IfOk result (λ found. IfSome (S.left src.old) (λ text.
         TookLine limit text (S.left src.new) (option_map (λ line. line.items) found))) }
     ensures read_fault { IsErrOf result MailError.ReadFault → Rose (S.faults src.old) (S.faults src.new) }

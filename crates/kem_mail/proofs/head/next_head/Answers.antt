@@ -1,4 +1,3 @@
-use Rattle.std.proofs.Common.{◌≡◌}
 use Rattle.kem_mail.proofs.Heads.{told_no_first_line, told_no_seed, told_no_second_line, told_no_info, told_head}
 use Rattle.kem_mail.proofs.head.next_head.Goals as goal
 

@@ -1,4 +1,4 @@
-use Rattle.std.proofs.Common.{◌≡◌, ◌+◌, refl, sym, ◌∙◌, take, drop, map, arith}
+use Rattle.std.proofs.Common.{◌+◌, refl, sym, ◌∙◌, take, drop, map, arith}
 use Rattle.std.specs.Prelude.{codes}
 use Rattle.age_core.specs.Stanza.{stanza_of}
 use Rattle.kem_mail.specs.Mail.{bodies}

@@ -1,6 +1,5 @@
-use Rattle.std.proofs.Common.{◌≡◌, ◌+◌, ◌<◌, List, ℕ, length, refl, sym, subst, ◌∙◌, take, drop, map, arith}
+use Rattle.std.proofs.Common.{◌+◌, ◌<◌, List, ℕ, length, sym, subst, ◌∙◌, take, drop, map, arith}
 use Rattle.std.specs.Prelude.{codes}
-use Rattle.std.specs.Option.{option_copied, option_to_list}
 use Rattle.age_core.specs.Stanza.{stanza_of}
 use Rattle.kem_mail.specs.Mail.{bodies}
 use Rattle.kem_mail.proofs.Tags.{bodies_split, not_one, some_length}

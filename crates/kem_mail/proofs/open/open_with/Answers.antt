@@ -1,6 +1,6 @@
-use Rattle.std.proofs.Common.{◌≡◌, ◌++◌, List, ℕ, map, take, sym, ap, ◌∙◌, subst, Some, None}
+use Rattle.std.proofs.Common.{◌≡◌, List, ℕ, map, take, sym, subst, Some, None}
 use Rattle.std.proofs.lemmas.List.{take-map}
-use Rattle.age_core.specs.Stanza.{Stanza, stanza_of}
+use Rattle.age_core.specs.Stanza.{stanza_of}
 use Rattle.age_core.specs.Reading.{Splits, NoneDone}
 use Rattle.kem_mail.proofs.Opening.{judged_before, told_opens, told_refused, told_no_done}
 use Rattle.kem_mail.specs.Taking.{EndsAt}
@@ -25,7 +25,7 @@ returns-in-Some-judge-clause-plain g c =
     let ends : EndsAt stanzas c.in-Some.done = rw c.deref-2.ensures.value at c.in-Some.ensures.found in
     let front = take-map stanza_of c.in-Some.done c.in_ok-stanzas.stanzas.items in
     let found : judged_before g.K.EncappedKey.Serializable.wire_size (map stanza_of (take c.in-Some.done c.in_ok-stanzas.stanzas.items)) ≡ Some c.in-Some-judge.messages =
-        sym (rw (c.size.ensures, c.deref-3.ensures.value) at c.in-Some-judge.ensures) in
+    sym (rw (c.size.ensures, c.deref-3.ensures.value) at c.in-Some-judge.ensures) in
     told_opens (g.S.Source.left c.args.src.now) (g.S.Source.left c.read_within.new.src) c.args.budget g.K.EncappedKey.Serializable.wire_size bytes split.0 stanzas c.in-Some.done c.in-Some-judge.messages
     c.in_ok-held.ensures.front splits ends (rw front found)
 
@@ -38,6 +38,6 @@ returns-clause-not_mail g c = λ _.
     let ends : EndsAt stanzas c.in-Some.done = rw c.deref-2.ensures.value at c.in-Some.ensures.found in
     let front = take-map stanza_of c.in-Some.done c.in_ok-stanzas.stanzas.items in
     let refused : judged_before g.K.EncappedKey.Serializable.wire_size (map stanza_of (take c.in-Some.done c.in_ok-stanzas.stanzas.items)) ≡ None =
-        sym (rw (c.size.ensures, c.deref-3.ensures.value) at c.in-None.ensures) in
+    sym (rw (c.size.ensures, c.deref-3.ensures.value) at c.in-None.ensures) in
     told_refused c.one_first_done.ensures.one c.one_first_done.ensures.or_none (g.S.Source.left c.args.src.now) (g.S.Source.left c.read_within.new.src) c.args.budget g.K.EncappedKey.Serializable.wire_size
     bytes split.0 stanzas c.in-Some.done c.in_ok-held.ensures.front splits ends (rw front refused)

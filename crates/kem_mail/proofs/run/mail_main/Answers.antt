@@ -1,4 +1,4 @@
-use Rattle.std.proofs.Common.{◌≡◌, ap, refl, sym, ◌∙◌, map}
+use Rattle.std.proofs.Common.{ap, map}
 use Rattle.std.specs.String.{string_bytes}
 use Rattle.std.specs.Prelude.{Err}
 use Rattle.age_core.specs.Outside.{Rose}

@@ -1,4 +1,3 @@
-use Rattle.std.proofs.Common.{◌≡◌}
 use Rattle.kem_mail.proofs.Runs.{told_no_head, told_no_mail}
 use Rattle.kem_mail.proofs.run.open_source.Goals as goal
 

@@ -1,6 +1,5 @@
-use Rattle.std.proofs.Common.{◌≡◌, ◌++◌, ◌∷◌, [], arith, ◌≤◌, length, ap, sym, ◌∙◌}
-use Rattle.kem_mail.proofs.Feeds.{NoFeed-push}
-use Rattle.kem_mail.proofs.Takes.{front_ended, front_long, front_line, front_more}
+use Rattle.std.proofs.Common.{arith}
+use Rattle.kem_mail.proofs.Takes.{front_ended, front_long}
 use Rattle.kem_mail.proofs.taking.next_line.Goals as goal
 
 pub returns-in-None-clause-line : goal.returns-in-None-clause-line
