@@ -1,11 +1,10 @@
 -- Counter blocks, sums of bytes, and GCTR piece by piece.
 use Rattle.std.proofs.Common.{◌≡◌, ◌↔◌, ℕ, zero, suc, ◌+◌, ◌-◌, ◌*◌, ◌%◌, ◌^◌, ◌<◌, ◌≤◌, min, List, [], ◌∷◌, ◌++◌, length, take, drop, slice_index, IsTrue, refl, sym, ap, ◌∙◌, arith, inl, inr, below_more, length-append, length-drop}
-use Rattle.std.specs.Prelude.{bit_or, bit_xor, nat_eq}
+use Rattle.std.specs.Prelude.{◌&&◌, Bool, bit_xor}
 use Rattle.std.specs.Int.{from_be_bytes, to_be_bytes, w32}
-use Rattle.std.proofs.lemmas.Bool.{cases_lt, eq-eqb, eqb-true}
+use Rattle.std.proofs.lemmas.Bool.{and_from, and_parts, cases_lt}
 use Rattle.std.proofs.lemmas.Grind.{same_number_lists}
 use Rattle.std.proofs.lemmas.List.{append_assoc, append-nil, drop-drop, drop_all, drop_more, length-take, take_all, take_min}
-use Rattle.std.proofs.lemmas.Nat.{le_or_l, le_or_r}
 use Rattle.std.proofs.lemmas.Slice.{drop-put_mid, take-put_mid}
 use borrow.Rule.Slice.PartMut.{post_of, put_mid}
 use lib.Bits.{xor_assoc, xor_self, xor_zero_r}
@@ -57,27 +56,20 @@ xor_bytes-twice (x ∷ xs) (y ∷ ys) h =
 
 -- ---- equal tags
 
-xor-none : (x y : ℕ) → bit_xor x y ≡ 0 → x ≡ y
-xor-none x y e = sym (xor_zero_r x) ∙ ap (bit_xor x) (sym e) ∙ sym (xor_assoc x x y) ∙ ap (λ (z : ℕ). bit_xor z y) (xor_self x)
-
 -- one byte more
-pub same_so_far-more : (d i : ℕ) (a b : List ℕ) → (d ≡ 0) ↔ ((k : ℕ) → k < i → slice_index a k ≡ slice_index b k)
-    → (bit_or d (bit_xor (slice_index a i) (slice_index b i)) ≡ 0) ↔ ((k : ℕ) → k < i + 1 → slice_index a k ≡ slice_index b k)
-same_so_far-more d i a b so_far =
-    let x : ℕ = slice_index a i in
-    let y : ℕ = slice_index b i in (
-      λ e. below_more (λ (k : ℕ). slice_index a k ≡ slice_index b k) i (so_far.0 (omega (arith, le_or_l d (bit_xor x y)))) (xor-none x y (omega (arith, le_or_r d (bit_xor x y)))),
-      λ same.
-          let front : d ≡ 0 = so_far.1 (λ k h. same k (omega arith)) in
-          let here : bit_xor x y ≡ 0 = ap (bit_xor x) (sym (same i (omega arith))) ∙ xor_self x in
-          rw (front, here) refl,
-    )
+pub same_so_far-more : (so_far here : Bool) (i : ℕ) (a b : List ℕ) → IsTrue so_far ↔ ((k : ℕ) → k < i → slice_index a k ≡ slice_index b k) → IsTrue here ↔ (slice_index a i ≡ slice_index b i)
+    → IsTrue (so_far && here) ↔ ((k : ℕ) → k < i + 1 → slice_index a k ≡ slice_index b k)
+same_so_far-more so_far here i a b all one = (
+  λ t.
+      let parts = and_parts so_far here t in
+      below_more (λ (k : ℕ). slice_index a k ≡ slice_index b k) i (all.0 parts.0) (one.0 parts.1),
+  λ same. and_from so_far here (all.1 (λ k h. same k (omega arith))) (one.1 (same i (omega arith))),
+)
 
-pub same_from_difference : (d i n : ℕ) (a b : List ℕ) → (d ≡ 0) ↔ ((k : ℕ) → k < i → slice_index a k ≡ slice_index b k) → i ≡ n → length a ≡ n → length b ≡ n
-    → IsTrue (nat_eq d 0) ↔ (a ≡ b)
-same_from_difference d i n a b so_far ei la lb = (
-  λ t. same_number_lists a b (la ∙ sym lb) (λ k h. so_far.0 (eqb-true d 0 t) k (omega arith)),
-  λ e. eq-eqb d 0 (so_far.1 (λ k h. ap (λ (z : List ℕ). slice_index z k) e)),
+pub same_from_all : (same : Bool) (i n : ℕ) (a b : List ℕ) → IsTrue same ↔ ((k : ℕ) → k < i → slice_index a k ≡ slice_index b k) → i ≡ n → length a ≡ n → length b ≡ n → IsTrue same ↔ (a ≡ b)
+same_from_all same i n a b all ei la lb = (
+  λ t. same_number_lists a b (la ∙ sym lb) (λ k h. all.0 t k (omega arith)),
+  λ e. all.1 (λ k h. ap (λ (z : List ℕ). slice_index z k) e),
 )
 
 -- ---- GCTR

@@ -9,6 +9,7 @@ ghost use Rattle.gcm_core.specs.Ghash.{polynomial_of};
 use crate::aes::{BLOCK_LEN, Block, cipher};
 use crate::error::{NotAuthentic, TooLong};
 use crate::ghash::{ghash, polynomial_of};
+use ct_choice::Choice;
 
 // The bytes of a nonce, which stand before the counter in a counter block.
 const NONCE_LEN: usize = 12;
@@ -98,11 +99,11 @@ fn tag_of(round_keys: &[u8], subkey: u128, nonce: &Nonce, aad: &[u8], text: &[u8
 fn is_same_tag(a: &Tag, b: &Tag) -> bool
     ensures { IsTrue result ↔ (a.now ≡ b.now) }
 {
-    let mut difference = 0;
+    let mut same = Choice::TRUE;
     for i in 0..BLOCK_LEN {
-        difference |= a[i] ^ b[i];
+        same = same.and(Choice::from_u8_eq(a[i], b[i]));
     }
-    difference == 0
+    same.to_bool()
 }
 
 // Whether both lengths keep the limits of GCM.
