@@ -24,8 +24,7 @@ pub fn one_first_done()
         → StandsBeforeDone text others → stanzas ≡ others }
     ensures or_none { (text rest : List ℕ) (stanzas : List Stanza) → StandsBeforeDone text stanzas
         → HasNoDone text rest → ⊥ }
-{
-}
+{}
 
 /// Three stanzas and what spells them, worked by hand.
 pub fn worked_spellings()
