@@ -1,1 +1,2 @@
 mod Schedules
+mod Xor

@@ -8,6 +8,10 @@ pub mod Answers
 pub mod Labels
 -- the key schedule, and contexts (RFC 9180, section 5.1)
 pub mod Schedule
+-- the nonces of messages (RFC 9180, section 5.2)
+pub mod Nonce
+-- how a context answers a call that uses its next number
+pub mod Messages
 -- the test KEM
 pub mod Mask
 -- the laws of the test KEM: proofs, and no definitions

@@ -1,18 +1,12 @@
 -- The test KEM: the secret is the key XOR the encapsulated key. It has no secrecy.
-use Rattle.std.specs.Prelude.{◌≡◌, ℕ, List, [], ◌∷◌, length, codes, bit_xor, Option, Some, None}
+use Rattle.std.specs.Prelude.{◌≡◌, ℕ, List, [], length, codes, Option, Some, None}
 use Rattle.sha2.specs.Sha256.{sha256}
-use Rattle.hpke.specs.Bytes.{IsBytes}
+use Rattle.hpke.specs.Bytes.{IsBytes, xor_bytes}
 use Rattle.hpke.specs.Labels.{kem_suite, labeled_extract, labeled_expand}
 
 -- any 32 bytes are a key, and an encapsulated key
 abbrev pub IsMaskKey : List ℕ → Type 0
 IsMaskKey bytes = (length bytes ≡ 32) × IsBytes bytes
-
--- place by place, as far as both go
-abbrev pub masked : List ℕ → List ℕ → List ℕ
-masked [] ys = []
-masked (x ∷ xs) [] = []
-masked (x ∷ xs) (y ∷ ys) = bit_xor x y ∷ masked xs ys
 
 -- the public key is the private key
 abbrev pub mask_public : List ℕ → List ℕ
@@ -20,12 +14,12 @@ mask_public sk = sk
 
 -- the secret of a key and an encapsulated key, or none with a sender's identity
 abbrev pub mask_decap : List ℕ → Option (List ℕ) → List ℕ → Option (List ℕ)
-mask_decap sk None enc = Some (masked sk enc)
+mask_decap sk None enc = Some (xor_bytes sk enc)
 mask_decap sk (Some sender) enc = None
 
 -- the secret and the encapsulated key, which is what was drawn, or none with a sender's identity
 abbrev pub mask_encap : List ℕ → Option (List ℕ × List ℕ) → List ℕ → Option (List ℕ × List ℕ)
-mask_encap pk None draw = Some (masked pk draw, draw)
+mask_encap pk None draw = Some (xor_bytes pk draw, draw)
 mask_encap pk (Some sender) draw = None
 
 -- the key of input keying material, by HKDF-SHA256

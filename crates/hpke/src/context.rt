@@ -1,13 +1,19 @@
 //! The contexts that a setup gives both sides (RFC 9180, sections 5.1 and 5.2).
 
-ghost use Rattle.std.specs.Prelude.{◌≡◌, ◌≤◌, ◌∷◌, ◌++◌, length, None, Some};
+ghost use Rattle.std.specs.Prelude.{◌≡◌, ◌≤◌, ◌<◌, ◌∷◌, ◌++◌, length, Err, OnOk, OnErr};
+ghost use Rattle.hpke.specs.Answers.{Answers};
+ghost use Rattle.hpke.specs.Messages.{NumberedAnswers, used};
+ghost use Rattle.hpke.specs.Nonce.{nonce_of, number_after};
+ghost use Rattle.hpke.specs.declared.error.HpkeError.TheVariants.{OpenError, SealError};
 ghost use Rattle.hpke.specs.Schedule.{Suite, schedule, schedule_context};
 
-use crate::aead::{Aead, BaseAead};
+use crate::aead::{Aead, BaseAead, MAX_TAG_SIZE};
+use crate::error::HpkeError;
 use crate::kdf::{Kdf, expand_short, hpke_suite_id, labeled_extract};
 use crate::kem::Kem;
-use crate::short::ShortBytes;
+use crate::short::{ShortBytes, nonce};
 use hkdf_core::{DigestBytes, HkdfHash, MAX_DIGEST_SIZE};
+use std::alloc::Global;
 use std::marker::{Model, PhantomData};
 
 /// What the contexts of both sides hold. Contracts see the key, the base nonce, the exporter secret
@@ -45,6 +51,74 @@ impl<A: Aead, D, K> AeadCtx<A, D, K> {
     {
         self.number
     }
+
+    /// The context once this number, its next one, was used.
+    fn raise(&mut self, number: u64)
+        ensures { self.new ≡ record self.old { next = number_after number } }
+    {
+        self.number = number.checked_add(1);
+    }
+
+    /// The nonce of the message of this number.
+    fn nonce(&self, number: u64) -> ShortBytes
+        ensures value { result ≡ nonce_of self.now.base_nonce number }
+        ensures size { length result ≡ A.AeadImpl.NONCE_SIZE }
+    {
+        nonce(&self.base_nonce, number)
+    }
+
+    /// The text sealed under this number, with its tag. `SealError` comes exactly where `seal_of` is
+    /// none.
+    fn seal_at(
+        &self,
+        alloc: Global,
+        number: u64,
+        plaintext: &[u8],
+        aad: &[u8],
+    ) -> Result<Vec<u8>, HpkeError>
+        ensures { Answers (λ sealed. sealed.items) SealError result
+            (A.AeadImpl.seal_of self.now.key (nonce_of self.now.base_nonce number) aad.now plaintext.now) }
+    {
+        let nonce = self.nonce(number);
+        let mut sealed = Vec::from_slice(alloc, plaintext)?;
+        let mut tag = [0; MAX_TAG_SIZE];
+        let tag = &mut tag[..A::AeadImpl::TAG_SIZE];
+        if self
+            .encryptor
+            .seal_in_place(nonce.as_slice(), aad, sealed.as_mut_slice(), tag)
+            .is_err()
+        {
+            return Err(HpkeError::SealError);
+        }
+        sealed.extend_from_slice(tag)?;
+        Ok(sealed)
+    }
+
+    /// The text that this one, with its tag, opens to under this number. `OpenError` comes exactly
+    /// where `open_of` is none.
+    fn open_at(
+        &self,
+        alloc: Global,
+        number: u64,
+        ciphertext: &[u8],
+        aad: &[u8],
+    ) -> Result<Vec<u8>, HpkeError>
+        requires { A.AeadImpl.TAG_SIZE ≤ length ciphertext.now }
+        ensures { Answers (λ text. text.items) OpenError result
+            (A.AeadImpl.open_of self.now.key (nonce_of self.now.base_nonce number) aad.now ciphertext.now) }
+    {
+        let nonce = self.nonce(number);
+        let (body, tag) = ciphertext.split_at(ciphertext.len() - A::AeadImpl::TAG_SIZE);
+        let mut text = Vec::from_slice(alloc, body)?;
+        if self
+            .encryptor
+            .open_in_place(nonce.as_slice(), aad, text.as_mut_slice(), tag)
+            .is_err()
+        {
+            return Err(HpkeError::OpenError);
+        }
+        Ok(text)
+    }
 }
 
 /// A sender's context. Contracts see the key, the base nonce, the exporter secret and the number of
@@ -75,6 +149,29 @@ impl<A: Aead, D, K> AeadCtxS<A, D, K> {
     {
         self.ctx.number()
     }
+
+    /// Seals a text under the next number: the ciphertext and then the tag (RFC 9180, section 5.2).
+    ///
+    /// `MessageLimitReached` comes exactly where number `u64::MAX` was used, then `SealError` exactly
+    /// where `seal_of` is none. A refused call leaves the context as it was.
+    pub fn seal(
+        &mut self,
+        alloc: Global,
+        plaintext: &[u8],
+        aad: &[u8],
+    ) -> Result<Vec<u8>, HpkeError>
+        ensures value { NumberedAnswers (λ sealed. sealed.items) SealError result self.old.next
+            (λ number. A.AeadImpl.seal_of self.old.key (nonce_of self.old.base_nonce number) aad.now plaintext.now) }
+        ensures used { OnOk result (self.new ≡ used self.old) }
+        ensures refused { OnErr result (self.new ≡ self.old) }
+    {
+        let Some(number) = self.ctx.number() else {
+            return Err(HpkeError::MessageLimitReached);
+        };
+        let sealed = self.ctx.seal_at(alloc, number, plaintext, aad)?;
+        self.ctx.raise(number);
+        Ok(sealed)
+    }
 }
 
 /// A recipient's context. Contracts see the key, the base nonce, the exporter secret and the number
@@ -104,6 +201,35 @@ impl<A: Aead, D, K> AeadCtxR<A, D, K> {
         ensures { result ≡ self.now.next }
     {
         self.ctx.number()
+    }
+
+    /// Opens a ciphertext that its tag follows, under the next number (RFC 9180, section 5.2).
+    ///
+    /// `OpenError` comes first for a text shorter than a tag; then `MessageLimitReached` exactly where
+    /// number `u64::MAX` was used; then `OpenError` exactly where `open_of` is none. A refused call
+    /// leaves the context as it was.
+    pub fn open(
+        &mut self,
+        alloc: Global,
+        ciphertext: &[u8],
+        aad: &[u8],
+    ) -> Result<Vec<u8>, HpkeError>
+        ensures short { length ciphertext.now < A.AeadImpl.TAG_SIZE → result ≡ Err OpenError }
+        ensures value { A.AeadImpl.TAG_SIZE ≤ length ciphertext.now
+            → NumberedAnswers (λ text. text.items) OpenError result self.old.next
+            (λ number. A.AeadImpl.open_of self.old.key (nonce_of self.old.base_nonce number) aad.now ciphertext.now) }
+        ensures used { OnOk result (self.new ≡ used self.old) }
+        ensures refused { OnErr result (self.new ≡ self.old) }
+    {
+        if ciphertext.len() < A::AeadImpl::TAG_SIZE {
+            return Err(HpkeError::OpenError);
+        }
+        let Some(number) = self.ctx.number() else {
+            return Err(HpkeError::MessageLimitReached);
+        };
+        let text = self.ctx.open_at(alloc, number, ciphertext, aad)?;
+        self.ctx.raise(number);
+        Ok(text)
     }
 }
 

@@ -1,4 +1,4 @@
-//! Hybrid public key encryption (RFC 9180): key encapsulation over any KEM.
+//! Hybrid public key encryption (RFC 9180) over any KEM, KDF and AEAD, in mode Base.
 #![tactic(auto)]
 
 mod aead;
@@ -14,7 +14,7 @@ mod serial;
 mod setup;
 mod short;
 
-pub use aead::{Aead, BaseAead};
+pub use aead::{Aead, AesGcm256, BaseAead};
 pub use context::{AeadCtxR, AeadCtxS};
 pub use error::HpkeError;
 pub use kdf::{HkdfSha256, Kdf, LabeledExpand, extract_and_expand, labeled_extract};

@@ -1,13 +1,15 @@
 //! A KEM for tests, which has no secrecy.
 
 ghost use Rattle.std.specs.Prelude.{◌≡◌, length};
-ghost use Rattle.hpke.specs.Mask.{masked, mask_key, mask_public, mask_decap, mask_encap, mask_derive};
+ghost use Rattle.hpke.specs.Bytes.{xor_bytes};
+ghost use Rattle.hpke.specs.Mask.{mask_key, mask_public, mask_decap, mask_encap, mask_derive};
 
 use crate::error::HpkeError;
 use crate::kdf::{HkdfSha256, expand_short, kem_suite_id, labeled_extract};
 use crate::kem::Kem;
 use crate::secret::{SecretSize, SharedSecret};
 use crate::serial::{Deserializable, Serializable};
+use crate::short::xor_in_place;
 use rand_core::Rng;
 use std::alloc::{AllocError, Global};
 use std::marker::Model;
@@ -157,11 +159,9 @@ fn derive_key(ikm: &[u8]) -> [u8; MASK_LEN]
 
 /// Two keys, XORed place by place.
 fn mask(a: &[u8; MASK_LEN], b: &[u8; MASK_LEN]) -> [u8; MASK_LEN]
-    ensures { result ≡ masked a.now b.now }
+    ensures { result ≡ xor_bytes a.now b.now }
 {
-    let mut c = [0; MASK_LEN];
-    for i in 0..MASK_LEN {
-        c[i] = a[i] ^ b[i];
-    }
+    let mut c = *a;
+    xor_in_place(&mut c, b);
     c
 }

@@ -41,6 +41,7 @@ pub fn setup_sender<'a, A: Aead, D: Kdf, K: Kem, R: Rng>(
         (sender_setup suite mode_base info.now [] []
         (K.encap_of (K.PublicKey.bytes pk_recip.now) None (fill_bytes 32 (R.stream csprng.old)).0)) }
 {
+    // The types name a lifetime, which the checker can't find for a reference that isn't there.
     let sk_sender_id: Option<&'a K::PrivateKey> = None;
     let pk_sender_id: Option<&'a K::PublicKey> = None;
     let (shared_secret, encapped_key) = K::encap(

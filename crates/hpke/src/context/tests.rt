@@ -1,17 +1,22 @@
 //! Contexts against those of an independent model, in hex.
 
+ghost use Rattle.std.specs.Prelude.{None};
+
 use super::{AeadCtx, AeadCtxR, AeadCtxS};
-use crate::aead::{Aead, BaseAead};
+use crate::aead::{Aead, AesGcm256, BaseAead};
+use crate::error::HpkeError;
 use crate::kdf::HkdfSha256;
+use crate::laws::opens_what_was_sealed;
 use crate::mask::{MaskKem, MaskKey};
 use crate::mode::{OpModeR, OpModeS};
 use crate::serial::Deserializable;
 use crate::setup::{setup_receiver, setup_sender};
 use crate::tests::ConstantDraw;
+use gcm_core::{NotAuthentic, TooLong};
 use std::alloc::Global;
 use std::test::Fail;
 
-// An AEAD with the sizes of AES-256-GCM that shows its key.
+// An AEAD with the sizes of AES-256-GCM that shows its key, and seals nothing.
 #[derive(Drop)]
 struct ShownKey {
     key: [u8; 32],
@@ -32,13 +37,43 @@ impl BaseAead for ShownKey {
 
     ghost key_of = { λ shown. shown.key };
 
+    ghost seal_of = { λ _ _ _ _. None };
+
+    ghost open_of = { λ _ _ _ _. None };
+
     fn new(key: &[u8]) -> ShownKey {
         let mut shown = ShownKey { key: [0; 32] };
         shown.key.copy_from_slice(key);
         shown
     }
 
+    fn seal_in_place(
+        &self,
+        _nonce: &[u8],
+        _aad: &[u8],
+        _buffer: &mut [u8],
+        _tag: &mut [u8],
+    ) -> Result<(), TooLong> {
+        Err(TooLong)
+    }
+
+    fn open_in_place(
+        &self,
+        _nonce: &[u8],
+        _aad: &[u8],
+        _buffer: &mut [u8],
+        _tag: &[u8],
+    ) -> Result<(), NotAuthentic> {
+        Err(NotAuthentic)
+    }
+
     ghost use Rattle.std.proofs.Common.{rules};
+    ghost use Rattle.std.proofs.lemmas.Option.{none-some};
+
+    ghost opens_what_was_sealed = { λ _ _ _ text sealed.
+        (λ opened. absurd (none-some text opened), λ made. absurd (none-some sealed made)) };
+
+    ghost sealed_size = { λ _ _ _ _ sealed made. absurd (none-some sealed made) };
 
     ghost key_size_in_range = { Prim.search rules };
 
@@ -113,5 +148,85 @@ fn contexts_of_mode_base(rt: HostRuntime) -> Result<(), Fail> {
         assert_eq!(rt; sender.as_str(), want);
         assert_eq!(rt; recipient.as_str(), want);
     }
+    Ok(())
+}
+
+type Sender = AeadCtxS<AesGcm256, HkdfSha256, MaskKem>;
+
+type Recipient = AeadCtxR<AesGcm256, HkdfSha256, MaskKem>;
+
+// The contexts of both sides under AES-256-GCM, for one secret and no info.
+fn both_sides(alloc: Global) -> Result<(Sender, Recipient), Fail> {
+    let secret = "250268e4f061962cf6e07f3b18dbd86314b0fe8a577d62f25ea78eb3fa6e5e0e";
+    let key = MaskKey::from_bytes(alloc, hex::decode(alloc, secret)?.as_slice())?;
+    let (encapped_key, sender) = setup_sender(
+        alloc,
+        &OpModeS::Base,
+        &key,
+        &[],
+        &mut ConstantDraw::new(0),
+    )?;
+    let recipient = setup_receiver(alloc, &OpModeR::Base, &key, &encapped_key, &[])?;
+    Ok((sender, recipient))
+}
+
+#[test]
+fn messages_in_order(rt: HostRuntime) -> Result<(), Fail> {
+    let alloc = rt.alloc();
+    opens_what_was_sealed::<AesGcm256>();
+    let (mut sender, mut recipient) = both_sides(alloc)?;
+    let first = sender.seal(alloc, b"hello", b"")?;
+    let first_hex = hex::encode(alloc, first.as_slice())?;
+    assert_eq!(rt;
+        first_hex.as_str(),
+        "e1f8f8e087b462beb787fdce4e37cbc1747d17593e"
+    );
+    let second = sender.seal(alloc, b"again", b"aad")?;
+    let second_hex = hex::encode(alloc, second.as_slice())?;
+    assert_eq!(rt;
+        second_hex.as_str(),
+        "f9a5941d1ecf71ec9dc0f2a1d34f0c12e53e840138"
+    );
+    assert_eq!(rt; sender.number(), Some(2));
+
+    assert_eq!(rt;
+        recipient.open(alloc, first.as_slice(), b"")?.as_slice(),
+        b"hello".as_slice()
+    );
+    assert!(rt; recipient.open(alloc, first.as_slice(), b"").is_err());
+    assert_eq!(rt; recipient.number(), Some(1));
+    assert_eq!(rt;
+        recipient.open(alloc, second.as_slice(), b"aad")?.as_slice(),
+        b"again".as_slice()
+    );
+    Ok(())
+}
+
+#[test]
+fn the_last_number(rt: HostRuntime) -> Result<(), Fail> {
+    let alloc = rt.alloc();
+    let (mut sender, mut recipient) = both_sides(alloc)?;
+    sender.ctx.raise(u64::MAX - 1);
+    recipient.ctx.raise(u64::MAX - 1);
+    let last = sender.seal(alloc, b"last", b"")?;
+    let last_hex = hex::encode(alloc, last.as_slice())?;
+    assert_eq!(rt;
+        last_hex.as_str(),
+        "1c91253cb895c46fd1bc8787e975a080196cafc9"
+    );
+    assert_eq!(rt; sender.number(), None);
+    assert_eq!(rt;
+        sender.seal(alloc, b"", b"").err(),
+        Some(HpkeError::MessageLimitReached)
+    );
+
+    assert_eq!(rt;
+        recipient.open(alloc, last.as_slice(), b"")?.as_slice(),
+        b"last".as_slice()
+    );
+    let after = recipient.open(alloc, last.as_slice(), b"").err();
+    assert_eq!(rt; after, Some(HpkeError::MessageLimitReached));
+    let short = recipient.open(alloc, b"fifteen bytes..", b"").err();
+    assert_eq!(rt; short, Some(HpkeError::OpenError));
     Ok(())
 }
