@@ -6,3 +6,4 @@ pub mod Tags
 pub mod Opening
 pub mod Runs
 pub mod Dues
+pub mod Writes

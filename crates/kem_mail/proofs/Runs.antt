@@ -1,14 +1,14 @@
 -- What a run that told a line owes.
-use Rattle.std.proofs.Common.{◌≡◌, ◌≢◌, ℕ, ◌<◌, ◌≤◌, Bool, true, false, cond, eqb, List, [], ◌∷◌, ◌++◌, length, get_or, map, Option, Some, None, refl, sym, ap, subst, ◌∙◌, arith, ◌⊎◌, inl, inr}
+use Rattle.std.proofs.Common.{◌≡◌, ◌≢◌, ℕ, ◌<◌, ◌≤◌, Bool, true, false, cond, eqb, List, [], ◌∷◌, ◌++◌, length, get_or, map, Option, Some, None, refl, sym, subst, ◌∙◌, arith, ◌⊎◌, inl, inr}
 use Rattle.std.specs.Prelude.{IfSome, IsTrue, ◌↔◌, codes}
-use Rattle.std.proofs.lemmas.List.{append-nil}
 use Rattle.std.proofs.lemmas.Option.{none-some}
 use Rattle.kem_mail.specs.Command.{IsOpen}
 use Rattle.kem_mail.proofs.Heads.{NoHead, one_rest}
 use Rattle.kem_mail.proofs.Opening.{NoMail}
 use Rattle.age_core.specs.Outside.{Rose, Gains, GainsPart}
 use Rattle.kem_mail.specs.Head.{IsHead}
-use Rattle.kem_mail.specs.Mail.{Opens, bodies, judged}
+use Rattle.kem_mail.specs.Mail.{Opens, judged}
+use Rattle.kem_mail.specs.Lines.{lines}
 use Rattle.kem_mail.specs.Due.{Due, HoldsMail, IsAnswer}
 use Rattle.kem_mail.specs.declared.error.MailError.{MailError}
 use Rattle.kem_mail.specs.declared.error.MailError.TheVariants.{NoMemory, ReadFault, NotMail}
@@ -45,11 +45,6 @@ told_fault result status fb fn before now line (inr part) five other = part.1
 pub told_status : (result status fb fn : ℕ) (before now : Option (List ℕ)) (line : List ℕ) → IsTold result status fb fn before now line → (result ≡ status) ⊎ (result ≡ 5)
 told_status result status fb fn before now line (inl all) = inl all.0
 told_status result status fb fn before now line (inr part) = inr part.0
-
--- nothing was written
-pub gains_none : (got : Option (List ℕ)) → Gains got got []
-gains_none None = tt
-gains_none (Some bytes) = ap Some (sym (append-nil bytes))
 
 not_four : (r : ℕ) → IsAnswer r → r ≡ 4 → ⊥
 not_four r (inl e) four = omega (arith, e, four)
@@ -104,10 +99,8 @@ told_no_mail (Some text) now seed info head none = λ messages h.
     behind messages (subst (λ (t : List ℕ). Opens 32 t 16777216 messages) same h.opens)
 
 -- what a run that opened a mail owes
-pub opened_due : (words : List (List ℕ)) (text : List ℕ) (messages : List (List ℕ)) → IsOpen words → HoldsMail text messages → Due words text 0 []
-opened_due words text messages command mail =
-    let none : messages ≡ [] = judged_none 32 (bodies (codes "kem") mail.opens.stanzas) (bodies (codes "msg") mail.opens.stanzas) messages mail.opens.judges in
-    inl (record { command = command; messages = messages; mail = mail; status_is = refl; output_is = rw none refl })
+pub opened_due : (words : List (List ℕ)) (text : List ℕ) (messages : List (List ℕ)) → IsOpen words → HoldsMail text messages → Due words text 0 (lines messages)
+opened_due words text messages command mail = inl (record { command = command; messages = messages; mail = mail; status_is = refl; output_is = refl })
 
 -- four words, one by one
 pub four_words : {X : Type 0} (f : X → List ℕ) (xs : List X) (a b c d : X) → 4 ≤ length xs → length xs < 5 → a ≡ get_or xs 0 a → b ≡ get_or xs 1 b → c ≡ get_or xs 2 c → d ≡ get_or xs 3 d → map f xs ≡ f a ∷ f b ∷ f c ∷ f d ∷ []
@@ -170,6 +163,11 @@ module _ (words : List (List ℕ)) (left : Option (List ℕ)) (result fb fn : �
   refused_complete source_rose ReadFault none rose r = for_each left (λ text messages command mail a b. absurd (a (rose refl)))
   refused_complete source_rose NotMail none rose r = for_some left HoldsNone _ (none refl) (λ text no messages command mail a b. absurd (no messages mail))
 
--- a mail was opened, and nothing had to be written
-pub told_opened : (words : List (List ℕ)) (left got : Option (List ℕ)) (messages : List (List ℕ)) → IsOpen words → IfSome left (λ text. HoldsMail text messages) → IsAnswered words left 0 got got
-told_opened words left got messages command mail = for_some left (λ text. HoldsMail text messages) _ mail (λ text h answer. ([], opened_due words text messages command h, gains_none got))
+  pub opened_answered : (messages : List (List ℕ)) → IsOpen words → IfSome left (λ text. HoldsMail text messages) → IsTold result 0 fb fn before now (lines messages) → IsAnswered words left result before now
+  opened_answered messages command mail told = for_some left (λ text. HoldsMail text messages) _ mail (λ text h. told_answer words text result 0 fb fn before now (lines messages) told (opened_due words text messages command h))
+
+  pub opened_part : (messages : List (List ℕ)) → IsOpen words → IfSome left (λ text. HoldsMail text messages) → IsTold result 0 fb fn before now (lines messages) → IsPart words left result before now
+  opened_part messages command mail told = for_some left (λ text. HoldsMail text messages) _ mail (λ text h five. told_part words text result 0 fb fn before now (lines messages) told (opened_due words text messages command h) five (λ e. omega (arith, e)))
+
+  pub opened_complete : (source_rose : Type 0) (line : List ℕ) → IsTold result 0 fb fn before now line → IsComplete words left result source_rose (Rose fb fn)
+  opened_complete source_rose line told = for_each left (λ text messages command mail a b. elim told [ inl all ↦ inl all.0 | inr part ↦ absurd (b part.1) ])

@@ -4,6 +4,7 @@
 mod error;
 mod head;
 pub mod laws;
+mod lines;
 mod list;
 mod open;
 mod run;

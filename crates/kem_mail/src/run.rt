@@ -5,10 +5,12 @@ ghost use Rattle.std.specs.String.{string_bytes};
 ghost use Rattle.age_core.specs.Outside.{Rose, Gains, GainsPart};
 ghost use Rattle.kem_mail.specs.Command.{IsOpen};
 ghost use Rattle.kem_mail.specs.Due.{Due, HoldsMail, IsAnswer};
+ghost use Rattle.kem_mail.specs.Lines.{lines};
 ghost use Rattle.kem_mail.specs.Taking.{IsRefused, IsTold};
 
 use crate::error::MailError;
 use crate::head::next_head;
+use crate::lines::write_lines;
 use crate::list::MessageList;
 use crate::open::open_with;
 use age_core::outside::{Failed, Sink, Source, write_all};
@@ -92,6 +94,17 @@ fn tell<W: Sink>(out: &mut W, line: &[u8], status: u8) -> u8
     }
 }
 
+/// Writes the messages of an opened mail, and answers the status of the run.
+fn tell_messages<W: Sink>(out: &mut W, messages: &MessageList) -> u8
+    ensures told { IsTold result 0 (W.faults out.old) (W.faults out.new) (W.got out.old) (W.got out.new) (lines messages.now) }
+    ensures plan { W.plan out.new ≡ W.plan out.old }
+{
+    match write_lines(out, messages) {
+        Ok(()) => DONE,
+        Err(Failed) => WRITE_FAULT,
+    }
+}
+
 /// Answers the status of a run whose mail wasn't opened, and writes the line that is due for it.
 fn refuse<W: Sink>(out: &mut W, error: MailError) -> u8
     ensures refused { IsRefused error result (W.faults out.old) (W.faults out.new) (W.got out.old) (W.got out.new) }
@@ -151,9 +164,8 @@ pub fn mail_main<S: Source, W: Sink>(
     if !is_open(words) {
         return tell(out, NO_COMMAND_LINE, NO_COMMAND);
     }
-    let _messages = match open_source(alloc, src) {
-        Ok(messages) => messages,
-        Err(error) => return refuse(out, error),
-    };
-    DONE
+    match open_source(alloc, src) {
+        Ok(messages) => tell_messages(out, &messages),
+        Err(error) => refuse(out, error),
+    }
 }

@@ -1,0 +1,91 @@
+-- One write after another.
+use Rattle.std.proofs.Common.{◌≡◌, ℕ, zero, suc, Bool, true, ◌+◌, ◌/◌, ◌%◌, List, [], ◌∷◌, ◌++◌, length, take, drop, get_or, Option, Some, None, refl, sym, ap, subst, ◌∙◌, append_assoc, arith}
+use Rattle.std.specs.Prelude.{◌==◌, IfSome, slice_get}
+use Rattle.std.proofs.lemmas.Bool.{eqb-true}
+use Rattle.std.proofs.lemmas.List.{append-nil, nil_from_length, take-append-drop}
+use Rattle.std.proofs.lemmas.List.Concat.{flat_map-append}
+use Rattle.std.proofs.lemmas.Option.{none-some}
+use Rattle.hex.specs.Hex.{encode_with, encode_lower, lower_digits}
+use Rattle.age_core.specs.Outside.{Gains, GainsPart}
+use Rattle.kem_mail.specs.Lines.{lines}
+
+pub gains_then : (a b c : Option (List ℕ)) (x y : List ℕ) → Gains a b x → Gains b c y → Gains a c (x ++ y)
+gains_then None b c x y h k = tt
+gains_then (Some text) b c x y h k =
+    subst (λ (o : Option (List ℕ)). IfSome o (λ got. c ≡ Some (got ++ y))) h k ∙ ap Some (append_assoc text x y)
+
+pub part_then : (a b c : Option (List ℕ)) (x y z : List ℕ) → Gains a b x → GainsPart b c y → GainsPart a c (x ++ (y ++ z))
+part_then None b c x y z h k = tt
+part_then (Some text) b c x y z h k =
+    let part = subst (λ (o : Option (List ℕ)). IfSome o (λ got. (p : List ℕ) × (r : List ℕ) × (y ≡ p ++ r) × (c ≡ Some (got ++ p)))) h k in
+    let whole : x ++ (y ++ z) ≡ (x ++ part.0) ++ (part.1 ++ z) = ap (λ (t : List ℕ). x ++ (t ++ z)) part.2 ∙ simp append_assoc in
+    (x ++ part.0, part.1 ++ z, whole, part.3 ∙ ap Some (append_assoc text x part.0))
+
+pub part_last : (a b c : Option (List ℕ)) (x y : List ℕ) → Gains a b x → GainsPart b c y → GainsPart a c (x ++ y)
+part_last a b c x y h k = subst (λ (t : List ℕ). GainsPart a c (x ++ t)) (append-nil y) (part_then a b c x y [] h k)
+
+-- ---- digits
+
+pub encode_with-append : (t xs ys : List ℕ) → encode_with t (xs ++ ys) ≡ encode_with t xs ++ encode_with t ys
+unfolding encode_with
+encode_with-append t [] ys = refl
+encode_with-append t (x ∷ xs) ys = ap (λ (ds : List ℕ). get_or t (x / 16) 0 ∷ get_or t (x % 16) 0 ∷ ds) (encode_with-append t xs ys)
+
+pub encode_split : (n : ℕ) (bytes : List ℕ) → encode_lower bytes ≡ encode_lower (take n bytes) ++ encode_lower (drop n bytes)
+encode_split n bytes = ap encode_lower (sym (take-append-drop n bytes)) ∙ encode_with-append lower_digits (take n bytes) (drop n bytes)
+
+pub encode_nothing : encode_lower [] ≡ []
+unfolding encode_with
+encode_nothing = refl
+
+-- a chunk more was written
+pub digits_more : (before mid now : Option (List ℕ)) (n : ℕ) (whole written bytes : List ℕ) → whole ≡ written ++ encode_lower bytes → Gains before mid written → Gains mid now (encode_lower (take n bytes))
+    → (more : List ℕ) × (whole ≡ more ++ encode_lower (drop n bytes)) × Gains before now more
+digits_more before mid now n whole written bytes is h k = (
+  written ++ encode_lower (take n bytes),
+  is ∙ (ap (λ (t : List ℕ). written ++ t) (encode_split n bytes) ∙ sym (append_assoc written (encode_lower (take n bytes)) (encode_lower (drop n bytes)))),
+  gains_then before mid now written (encode_lower (take n bytes)) h k,
+)
+
+-- no byte is left, and so all digits were written
+pub digits_all : (before mid : Option (List ℕ)) (whole written rest : List ℕ) (none : Bool) → none ≡ (length rest == 0) → none ≡ true → whole ≡ written ++ encode_lower rest → Gains before mid written → Gains before mid whole
+digits_all before mid whole written rest none is t split h =
+    let nil : rest ≡ [] = nil_from_length rest (eqb-true (length rest) 0 (sym is ∙ t)) in
+    let all : whole ≡ written = split ∙ (ap (λ (bytes : List ℕ). written ++ encode_lower bytes) nil ∙ (ap (λ (t : List ℕ). written ++ t) encode_nothing ∙ append-nil written)) in
+    subst (Gains before mid) (sym all) h
+
+-- a part of a chunk was written
+pub digits_part : (before mid now : Option (List ℕ)) (n : ℕ) (whole written bytes tail : List ℕ) → whole ≡ written ++ encode_lower bytes → Gains before mid written → GainsPart mid now (encode_lower (take n bytes))
+    → GainsPart before now (whole ++ tail)
+digits_part before mid now n whole written bytes tail is h k =
+    let front = encode_lower (take n bytes) in
+    let back = encode_lower (drop n bytes) in
+    let split : whole ++ tail ≡ written ++ (front ++ (back ++ tail)) = ap (λ (t : List ℕ). t ++ tail) (is ∙ ap (λ (t : List ℕ). written ++ t) (encode_split n bytes)) ∙ simp append_assoc in
+    subst (GainsPart before now) (sym split) (part_then before mid now written front (back ++ tail) h k)
+
+-- ---- lines
+
+get_nothing : (i : ℕ) (x : List ℕ) → slice_get [] i ≡ Some x → ⊥
+get_nothing zero x e = none-some x e
+get_nothing (suc i) x e = none-some x e
+
+drop_get : (xs : List (List ℕ)) (i : ℕ) (x : List ℕ) → slice_get xs i ≡ Some x → drop i xs ≡ x ∷ drop (i + 1) xs
+drop_get [] i x e = absurd (get_nothing i x e)
+drop_get (y ∷ ys) zero x e = let same : y ≡ x = cc in ap (λ (z : List ℕ). z ∷ ys) same
+drop_get (y ∷ ys) (suc i) x e = let k : suc (i + 1) ≡ suc i + 1 = omega arith in drop_get ys i x e ∙ ap (λ (n : ℕ). x ∷ drop n (y ∷ ys)) k
+
+take_get : (xs : List (List ℕ)) (i : ℕ) (x : List ℕ) → slice_get xs i ≡ Some x → take (i + 1) xs ≡ take i xs ++ x ∷ []
+take_get [] i x e = absurd (get_nothing i x e)
+take_get (y ∷ ys) zero x e = let same : y ≡ x = cc in ap (λ (z : List ℕ). z ∷ []) same
+take_get (y ∷ ys) (suc i) x e = let k : suc i + 1 ≡ suc (i + 1) = omega arith in ap (λ (n : ℕ). take n (y ∷ ys)) k ∙ ap (λ (t : List (List ℕ)). y ∷ t) (take_get ys i x e)
+
+-- the messages, with the one at a place written out
+pub lines_split : (messages : List (List ℕ)) (i : ℕ) (message : List ℕ) → slice_get messages i ≡ Some message → lines messages ≡ lines (take i messages) ++ ((encode_lower message ++ 10 ∷ []) ++ lines (drop (i + 1) messages))
+lines_split messages i message is =
+    let whole : messages ≡ take i messages ++ message ∷ drop (i + 1) messages = sym (take-append-drop i messages) ∙ ap (λ (t : List (List ℕ)). take i messages ++ t) (drop_get messages i message is) in
+    ap lines whole ∙ flat_map-append (λ m. encode_lower m ++ 10 ∷ []) (take i messages) (message ∷ drop (i + 1) messages)
+
+-- one message more
+pub lines_more : (messages : List (List ℕ)) (i : ℕ) (message : List ℕ) → slice_get messages i ≡ Some message → lines (take (i + 1) messages) ≡ lines (take i messages) ++ (encode_lower message ++ 10 ∷ [])
+lines_more messages i message is =
+    ap lines (take_get messages i message is) ∙ (flat_map-append (λ m. encode_lower m ++ 10 ∷ []) (take i messages) (message ∷ []) ∙ ap (λ (t : List ℕ). lines (take i messages) ++ t) (append-nil (encode_lower message ++ 10 ∷ [])))
