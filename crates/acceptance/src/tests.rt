@@ -1,7 +1,7 @@
 //! Whole runs, as tables. The answers are those of an independent model of the program.
 
 use age_core::outside::{CleanSource, MemSink, MemSource, Source};
-use hpke::{Deserializable, MaskKem, MaskKey};
+use hpke::{AesGcm256, Deserializable, HkdfSha256, MaskKem, MaskKey};
 use kem_mail::{MailError, mail_main, open_with};
 use std::alloc::{AllocError, Global};
 use std::test::Fail;
@@ -229,6 +229,39 @@ const INPUTS: [(&str, usize, &[u8], u8); 29] = [
     ),
 ];
 
+/// Inputs whose mails have messages, with the status and the output of a run.
+const MESSAGES: [(&str, &[u8], u8, &[u8]); 3] = [
+    (
+        "hello",
+        b"00000000000000000000000000000000000000000000000000000000000000000000000000000000000000000000000000000000000000000000000000000000\n\n-> kem\nJQJo5PBhliz24H87GNvYYxSw/opXfWLyXqeOs/puXg4\n-> msg\n4fj44Ie0Yr63h/3OTjfLwXR9F1k+\n-> done\n\n",
+        0,
+        b"68656c6c6f\n",
+    ),
+    (
+        "last left out",
+        b"b91cc8e7bf4c6d3664c9fe54de36622a908eb87734d3182e836ff490391e506856054f75afd71fa4bb5d19a14f11ad57f7943c1e3f5579af8bcd2a8ec1e4b633\n00ff\n-> kem\nIeya4JNuYqr4DovFEdtUiYQRK4NkIjoSA/H06qAeNyQ\n-> msg\nI+NDVbrYlPYLNXOc4Kko4w\n-> msg\nNxmpeYq75e3jU2eNXqycKpc\n-> msg\ncWWyqolfGxe8VOAJF2+ki7rb5nzt\n-> msg\n0Vdc7qwGJfGtlv7hlqMD2LffeJKJV9bV2YCZEpa9ug\n-> msg\n67nVQQVrZ6eYwaQpnK/Mu8awwZ4r7IpmU9iY39kfjOo\n-> msg\nI+y+c7mr4ff7XhGp3aeyEdUYU6VuKdmrbwiXjxkJkyJG\n-> msg\ngObYKGkp07W78tT7MiaiF+vjd6dbCy+8KiHsUzYK3ra8jROyXLEGzd+3BB4DjBA\n-> msg\nWHCdqMEjJXtjGQY+N99Uv1+UV28tC4YCC1FT2wbUizQpE6UpXlnW9NDSPUg8wXwc\n\n-> msg\n1L8yvpgkvxFLVuB1668vqgnZOKT/34/F1zjOf7Ah1gSXZN0lDtmxOgNwYJfRCRdv\n0A\n-> msg\nLP7M5VawP2rYMSUN7miqiVWwrWFRie5Y1KpI18MjbJ0bolFVAiwf2tZQk98nuANK\noJcSvSIKREmhGzOrTNbx\n-> msg\nCSsyfhXA2pXMRZPklYSMBPV231WSavWXp/YpEZ8KuC3+uBR363bVCXyDHT9DwVY0\nQuPW7ug5L4STzSiTZUjYqw\n-> msg\n+tneGwg2T5jANo5XoArIej4sU9IOes8gCk9sPcqQT8IbK64INDsCfKBY1bc/zdtj\nB+dK9i3EbzY+WlxtUAOXHresT854y6TaVjHM2PsOkKFUp/WngPgxJ82XXb8q88fn\nNv5nvmNYAz3rtJ079oAXXwnAVmY\n-> done\n\n",
+        0,
+        b"\n00\n68656c6c6f\na92af7f1c6689eac5edbc7c5671f05\n2a8b509c45f42e361a4ae5f20e179f73\n9b8a6bbff7d148bd6cbb56016786152092\na544a13dc31dfeb13aa665215e5d304a656d4ddc22a466a429169b472116fd\nd665b2fcb12a430902598f12447ec28484cb242ac036b13a85b9af655713c2ad\nc299725bbddaa55ff9d711669eb2fcc8ce4f3253dd3f5099c54833c4ae7a9fb76f\nc53d25aa37a6fbfa7202181e6bc674fa09c93782e0ea8c0d9a36824ecf4ecb33fef2e656850655f3fe8f756f24e648\n891ff54bec0d2b72c86b50010459256ee0193bd0f2d3b020c4e77372bfb29b30ff5cef7a03b754ff15fd848e1d3e0e8a\ne51e21f707188a9536242b3fbf0ebd89367936e5dccc9db2ce590274c7355c069b827f1cbd312ba41e881e265e34f3a7a9655981cc321ab46fd3953f9b68097184c9e5eaa28e281361875389b2907e57729185c9d988d8b5fd2fefa4742fc178b9b83fe1\n",
+    ),
+    (
+        "msg of 15 bytes",
+        b"b91cc8e7bf4c6d3664c9fe54de36622a908eb87734d3182e836ff490391e506856054f75afd71fa4bb5d19a14f11ad57f7943c1e3f5579af8bcd2a8ec1e4b633\n\n-> kem\ncYD/NI0s1dulhY0JRuvx8orMP3VXu8H37YoXcSHVp10\n-> msg\n8m3uQUPnwZneZvh6qzxR\n-> done\n\n",
+        3,
+        b"! NotMail\n",
+    ),
+];
+
+#[test]
+fn messages_are_opened_in_order(rt: HostRuntime) -> Result<(), Fail> {
+    for (name, text, status, output) in MESSAGES {
+        let mut src = CleanSource::new(Vec::from_slice(rt.alloc(), text)?);
+        let answer = run(rt.alloc(), &OPEN, &mut src, &[])?;
+        assert_eq!(rt; answer.status, status, "{name}");
+        assert_eq!(rt; answer.output.as_slice(), output);
+    }
+    Ok(())
+}
+
 #[test]
 fn inputs_have_their_answers(rt: HostRuntime) -> Result<(), Fail> {
     for (name, zeros, text, status) in INPUTS {
@@ -317,7 +350,13 @@ fn a_mail_opens_over_the_test_kem(rt: HostRuntime) -> Result<(), Fail> {
         .ok_or("32 bytes are a key")?;
     for (budget, want) in [(60, Ok(0)), (59, Err(MailError::NotMail))] {
         let mut src = CleanSource::new(input(rt.alloc(), 0, PLAIN)?);
-        let opened = open_with::<MaskKem, CleanSource>(rt.alloc(), &key, b"info", &mut src, budget);
+        let opened = open_with::<MaskKem, HkdfSha256, AesGcm256, CleanSource>(
+            rt.alloc(),
+            &key,
+            b"info",
+            &mut src,
+            budget,
+        );
         match opened {
             Ok(messages) => {
                 assert_eq!(rt; Ok(messages.len()), want);

@@ -1,18 +1,33 @@
 -- No words and text have two due answers.
-use Rattle.std.proofs.Common.{◌≡◌, ℕ, List, [], sym, ap, ◌∙◌, inl, inr}
+use Rattle.std.proofs.Common.{◌≡◌, ℕ, List, take, Option, Some, sym, ap, subst, ◌∙◌, inl, inr}
 use Rattle.std.specs.Prelude.{codes}
-use Rattle.kem_mail.specs.Mail.{bodies}
+use Rattle.age_core.specs.Stanza.{Stanza}
+use Rattle.age_core.proofs.Readings.{same_stanzas_before}
+use Rattle.kem_mail.specs.Mail.{Opener, Opens, bodies, judged}
 use Rattle.kem_mail.specs.Lines.{lines}
-use Rattle.kem_mail.specs.Due.{Due, HoldsMail}
-use Rattle.kem_mail.proofs.Runs.{judged_none}
+use Rattle.kem_mail.specs.Due.{Due, HoldsMail, opener}
+use Rattle.kem_mail.proofs.Heads.{one_head}
 
--- the messages of a mail
-no_messages : (text : List ℕ) (messages : List (List ℕ)) → HoldsMail text messages → messages ≡ []
-no_messages text messages mail = judged_none 32 (bodies (codes "kem") mail.opens.stanzas) (bodies (codes "msg") mail.opens.stanzas) messages mail.opens.judges
+same_judgement : (o : Option (List (List ℕ))) (messages others : List (List ℕ)) → o ≡ Some messages → o ≡ Some others → messages ≡ others
+same_judgement o messages others e f = let same : Some messages ≡ Some others = sym e ∙ f in cc
+
+-- a mail opens to one list of messages
+same_opens : (opener : Opener) (text : List ℕ) (budget : ℕ) (messages others : List (List ℕ)) → Opens opener text budget messages → Opens opener text budget others → messages ≡ others
+same_opens opener text budget messages others d e =
+    let stanzas : d.stanzas ≡ e.stanzas = same_stanzas_before (take budget text) d.stanzas e.stanzas d.reads e.reads in
+    same_judgement (judged opener (bodies (codes "kem") e.stanzas) (bodies (codes "msg") e.stanzas)) messages others
+    (ap (λ (t : List Stanza). judged opener (bodies (codes "kem") t) (bodies (codes "msg") t)) (sym stanzas) ∙ d.judges) e.judges
+
+same_messages : (text : List ℕ) (messages others : List (List ℕ)) → HoldsMail text messages → HoldsMail text others → messages ≡ others
+same_messages text messages others d e =
+    let same = one_head text d.seed d.info d.rest e.seed e.info e.rest d.head e.head in
+    let seeds : Opens (opener (take 32 e.seed) d.info) d.rest 16777216 messages = subst (λ (t : List ℕ). Opens (opener (take 32 t) d.info) d.rest 16777216 messages) same.0 d.opens in
+    let infos : Opens (opener (take 32 e.seed) e.info) d.rest 16777216 messages = subst (λ (t : List ℕ). Opens (opener (take 32 e.seed) t) d.rest 16777216 messages) same.1 seeds in
+    same_opens (opener (take 32 e.seed) e.info) e.rest 16777216 messages others (subst (λ (t : List ℕ). Opens (opener (take 32 e.seed) e.info) t 16777216 messages) same.2 infos) e.opens
 
 pub same_due : (words : List (List ℕ)) (text : List ℕ) (one other : ℕ) (output another : List ℕ) → Due words text one output → Due words text other another → (one ≡ other) × (output ≡ another)
 same_due words text one other output another (inl d) (inl e) =
-    let messages : d.messages ≡ e.messages = no_messages text d.messages d.mail ∙ sym (no_messages text e.messages e.mail) in
+    let messages : d.messages ≡ e.messages = same_messages text d.messages e.messages d.mail e.mail in
     (d.status_is ∙ sym e.status_is, d.output_is ∙ (ap lines messages ∙ sym e.output_is))
 same_due words text one other output another (inl d) (inr (inl e)) = absurd (e.command d.command)
 same_due words text one other output another (inl d) (inr (inr e)) = absurd (e.mail d.messages d.mail)

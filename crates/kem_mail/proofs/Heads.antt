@@ -86,7 +86,10 @@ told_head None now later line second seed info took spells next info_is = tt
 told_head (Some text) now later line second seed info took spells next info_is = a_head text line second seed info now later took spells next info_is
 
 -- a text has one head
-pub one_rest : (text seed info rest seed' info' rest' : List ℕ) → IsHead text seed info rest → IsHead text seed' info' rest' → rest ≡ rest'
-one_rest text seed info rest seed' info' rest' h k =
+pub one_head : (text seed info rest seed' info' rest' : List ℕ) → IsHead text seed info rest → IsHead text seed' info' rest' → (seed ≡ seed') × (info ≡ info') × (rest ≡ rest')
+one_head text seed info rest seed' info' rest' h k =
     let first = same_line h.seed_digits k.seed_digits (h.info_digits ++ 10 ∷ rest) (k.info_digits ++ 10 ∷ rest') (decoded_free h.seed_digits seed h.seed_is) (decoded_free k.seed_digits seed' k.seed_is) (sym h.whole ∙ k.whole) in
-    (same_line h.info_digits k.info_digits rest rest' (decoded_free h.info_digits info h.info_is) (decoded_free k.info_digits info' k.info_is) first.1).1
+    let second = same_line h.info_digits k.info_digits rest rest' (decoded_free h.info_digits info h.info_is) (decoded_free k.info_digits info' k.info_is) first.1 in
+    let seeds : Ok seed ≡ Ok seed' = sym h.seed_is ∙ (ap decode_of first.0 ∙ k.seed_is) in
+    let infos : Ok info ≡ Ok info' = sym h.info_is ∙ (ap decode_of second.0 ∙ k.info_is) in
+    (cc (seeds), cc (infos), second.1)

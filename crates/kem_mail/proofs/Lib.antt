@@ -6,4 +6,5 @@ pub mod Tags
 pub mod Opening
 pub mod Runs
 pub mod Dues
+pub mod Messages
 pub mod Writes

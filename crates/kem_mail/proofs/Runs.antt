@@ -1,15 +1,14 @@
 -- What a run that told a line owes.
-use Rattle.std.proofs.Common.{◌≡◌, ◌≢◌, ℕ, ◌<◌, ◌≤◌, Bool, true, false, cond, eqb, List, [], ◌∷◌, ◌++◌, length, get_or, map, Option, Some, None, refl, sym, subst, ◌∙◌, arith, ◌⊎◌, inl, inr}
-use Rattle.std.specs.Prelude.{IfSome, IsTrue, ◌↔◌, codes}
-use Rattle.std.proofs.lemmas.Option.{none-some}
+use Rattle.std.proofs.Common.{◌≡◌, ◌≢◌, ℕ, ◌<◌, ◌≤◌, Bool, true, false, cond, List, [], ◌∷◌, ◌++◌, length, get_or, map, take, Option, Some, None, refl, sym, subst, ◌∙◌, arith, ◌⊎◌, inl, inr}
+use Rattle.std.specs.Prelude.{IfSome, IfOk, IsTrue, Result, Ok, Err, ◌↔◌, codes}
 use Rattle.kem_mail.specs.Command.{IsOpen}
-use Rattle.kem_mail.proofs.Heads.{NoHead, one_rest}
+use Rattle.kem_mail.proofs.Heads.{NoHead, one_head}
 use Rattle.kem_mail.proofs.Opening.{NoMail}
 use Rattle.age_core.specs.Outside.{Rose, Gains, GainsPart}
 use Rattle.kem_mail.specs.Head.{IsHead}
-use Rattle.kem_mail.specs.Mail.{Opens, judged}
+use Rattle.kem_mail.specs.Mail.{Opens}
 use Rattle.kem_mail.specs.Lines.{lines}
-use Rattle.kem_mail.specs.Due.{Due, HoldsMail, IsAnswer}
+use Rattle.kem_mail.specs.Due.{Due, HoldsMail, IsAnswer, opener}
 use Rattle.kem_mail.specs.declared.error.MailError.{MailError}
 use Rattle.kem_mail.specs.declared.error.MailError.TheVariants.{NoMemory, ReadFault, NotMail}
 use Rattle.std.specs.Str.{bytes_eq}
@@ -72,17 +71,6 @@ chosen : {A : Type 0} (b : Bool) (x y z : A) → cond b x y ≡ z → ((b ≡ tr
 chosen true x y z e = inl (refl, e)
 chosen false x y z e = inr (refl, e)
 
--- the messages of a mail are none
-pub judged_none : (size : ℕ) (keys sealed messages : List (List ℕ)) → judged size keys sealed ≡ Some messages → messages ≡ []
-judged_none size [] sealed messages e = absurd cc
-judged_none size (key ∷ []) [] messages e =
-    elim (chosen (eqb (length key) size) (Some []) None (Some messages) e) [
-      | inl is ↦ cc (is.1)
-      | inr none ↦ absurd (none-some messages none.1)
-    ]
-judged_none size (key ∷ []) (first ∷ others) messages e = absurd cc
-judged_none size (key ∷ other ∷ keys) sealed messages e = absurd cc
-
 -- no head and mail stand there
 abbrev pub HoldsNone : List ℕ → Type 0
 HoldsNone text = (messages : List (List ℕ)) → HoldsMail text messages → ⊥
@@ -91,12 +79,36 @@ pub told_no_head : (before : Option (List ℕ)) → IfSome before NoHead → IfS
 told_no_head None none = tt
 told_no_head (Some text) none = λ messages h. none h.seed h.info h.rest h.head
 
-pub told_no_mail : (before now : Option (List ℕ)) (seed info : List ℕ) → IfSome before (λ text. (rest : List ℕ) × IsHead text seed info rest × (now ≡ Some rest)) → IfSome now (NoMail 32 16777216) → IfSome before HoldsNone
-told_no_mail None now seed info head none = tt
-told_no_mail (Some text) now seed info head none = λ messages h.
-    let behind = subst (λ (o : Option (List ℕ)). IfSome o (NoMail 32 16777216)) head.2 none in
-    let same : h.rest ≡ head.0 = one_rest text h.seed h.info h.rest seed info head.0 h.head head.1 in
-    behind messages (subst (λ (t : List ℕ). Opens 32 t 16777216 messages) same h.opens)
+no_mail_behind : (before now : Option (List ℕ)) (seed info key : List ℕ) → IfSome before (λ text. (rest : List ℕ) × IsHead text seed info rest × (now ≡ Some rest)) → key ≡ take 32 seed
+    → IfSome now (NoMail (opener key info) 16777216) → IfSome before HoldsNone
+no_mail_behind None now seed info key head is_key none = tt
+no_mail_behind (Some text) now seed info key head is_key none = λ messages h.
+    let told : NoMail (opener key info) 16777216 head.0 = subst (λ (o : Option (List ℕ)). IfSome o (NoMail (opener key info) 16777216)) head.2 none in
+    let behind : NoMail (opener (take 32 seed) info) 16777216 head.0 = subst (λ (k : List ℕ). NoMail (opener k info) 16777216 head.0) is_key told in
+    let same = one_head text h.seed h.info h.rest seed info head.0 h.head head.1 in
+    let seeds : Opens (opener (take 32 seed) h.info) h.rest 16777216 messages = subst (λ (t : List ℕ). Opens (opener (take 32 t) h.info) h.rest 16777216 messages) same.0 h.opens in
+    let infos : Opens (opener (take 32 seed) info) h.rest 16777216 messages = subst (λ (t : List ℕ). Opens (opener (take 32 seed) t) h.rest 16777216 messages) same.1 seeds in
+    behind messages (subst (λ (t : List ℕ). Opens (opener (take 32 seed) info) t 16777216 messages) same.2 infos)
+
+mail_behind : (before now : Option (List ℕ)) (seed info key : List ℕ) (messages : List (List ℕ)) → IfSome before (λ text. (rest : List ℕ) × IsHead text seed info rest × (now ≡ Some rest)) → key ≡ take 32 seed
+    → IfSome now (λ t. Opens (opener key info) t 16777216 messages) → IfSome before (λ text. HoldsMail text messages)
+mail_behind None now seed info key messages head is_key opens = tt
+mail_behind (Some text) now seed info key messages head is_key opens =
+    let told : Opens (opener key info) head.0 16777216 messages = subst (λ (o : Option (List ℕ)). IfSome o (λ t. Opens (opener key info) t 16777216 messages)) head.2 opens in
+    record { seed = seed; info = info; rest = head.0; head = head.1; opens = subst (λ (k : List ℕ). Opens (opener k info) head.0 16777216 messages) is_key told }
+
+-- what the source holds, where a head was read and what follows was judged with the key in its seed
+module _ (before now : Option (List ℕ)) (seed info key : List ℕ) (head : IfSome before (λ text. (rest : List ℕ) × IsHead text seed info rest × (now ≡ Some rest))) (is_key : key ≡ take 32 seed) where
+  pub told_no_mail : IfSome now (NoMail (opener key info) 16777216) → IfSome before HoldsNone
+  told_no_mail none = no_mail_behind before now seed info key head is_key none
+
+  pub told_mail : (messages : List (List ℕ)) → IfSome now (λ t. Opens (opener key info) t 16777216 messages) → IfSome before (λ text. HoldsMail text messages)
+  told_mail messages opens = mail_behind before now seed info key messages head is_key opens
+
+pub told_judged : (result : Result (List (List ℕ)) MailError) (before now : Option (List ℕ)) (seed info key : List ℕ) → IfSome before (λ text. (rest : List ℕ) × IsHead text seed info rest × (now ≡ Some rest)) → key ≡ take 32 seed
+    → IfOk result (λ messages. IfSome now (λ t. Opens (opener key info) t 16777216 messages)) → IfOk result (λ messages. IfSome before (λ text. HoldsMail text messages))
+told_judged (Ok messages) before now seed info key head is_key opens = told_mail before now seed info key head is_key messages opens
+told_judged (Err e) before now seed info key head is_key opens = tt
 
 -- what a run that opened a mail owes
 pub opened_due : (words : List (List ℕ)) (text : List ℕ) (messages : List (List ℕ)) → IsOpen words → HoldsMail text messages → Due words text 0 (lines messages)

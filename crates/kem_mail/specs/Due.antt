@@ -1,25 +1,38 @@
 -- What a run owes for its words and for the bytes that its source tells: a status and an output.
-use Rattle.std.specs.Prelude.{◌≡◌, ℕ, List, [], ◌∷◌, ◌++◌, codes, ◌⊎◌}
+use Rattle.std.specs.Prelude.{◌≡◌, ℕ, List, [], ◌∷◌, ◌++◌, codes, take, None, ◌⊎◌}
 use Rattle.kem_mail.specs.Command.{IsOpen}
 use Rattle.kem_mail.specs.Head.{IsHead}
-use Rattle.kem_mail.specs.Mail.{Opens}
+use Rattle.sha2.specs.Sha256.{sha256}
+use Rattle.gcm_core.specs.Gcm.{open_of}
+use Rattle.hpke.specs.Schedule.{Suite, mode_base, receiver_setup}
+use Rattle.hpke.specs.Mask.{mask_decap}
+use Rattle.kem_mail.specs.Mail.{Opener, Opens}
 use Rattle.kem_mail.specs.Lines.{lines}
 
 -- the most bytes of a mail that are read
 abbrev pub mail_budget : ℕ
 mail_budget = 16777216
 
--- how long an encapsulated key of the suite is
-abbrev pub key_size : ℕ
-key_size = 32
+-- the test KEM, HKDF-SHA256 and AES-256-GCM
+abbrev pub suite : Suite
+suite = record { hash = sha256; block_size = 64; digest_size = 32; key_size = 32; nonce_size = 12; kem_id = 0xFF00; kdf_id = 1; aead_id = 2 }
 
--- a text begins with a head, and a mail follows that opens to these messages
+-- how the suite opens a mail in mode Base, with this private key and info
+abbrev pub opener : List ℕ → List ℕ → Opener
+opener key info = record {
+  key_size = 32;
+  context_of = λ encapped. receiver_setup suite mode_base info [] [] (mask_decap key None encapped);
+  open_of = open_of;
+}
+
+-- a text begins with a head, and a mail follows that opens to these messages: the private key is the
+-- first 32 bytes of the seed
 pub record HoldsMail (text : List ℕ) (messages : List (List ℕ)) : Type 0 where
   pub seed : List ℕ
   pub info : List ℕ
   pub rest : List ℕ
   pub head : IsHead text seed info rest
-  pub opens : Opens key_size rest mail_budget messages
+  pub opens : Opens (opener (take 32 seed) info) rest mail_budget messages
 
 -- status 0: a mail was opened, and each message is a line
 pub record IsOpened (words : List (List ℕ)) (text : List ℕ) (status : ℕ) (output : List ℕ) : Type 0 where

@@ -1,5 +1,5 @@
 -- What the private functions take from a source. No public clause cites it.
-use Rattle.std.specs.Prelude.{◌≡◌, ◌≢◌, ℕ, ◌≤◌, List, [], ◌∷◌, ◌++◌, length, take, drop, codes, ◌⊎◌, Option, Some, None, Ok}
+use Rattle.std.specs.Prelude.{◌≡◌, ◌≢◌, ℕ, ◌≤◌, List, [], ◌∷◌, ◌++◌, length, take, drop, codes, ◌⊎◌, Option, Some, None, Result, Ok, Err}
 use Rattle.std.specs.List.{AllByRecursion}
 use Rattle.hex.specs.Hex.{decode_of}
 use Rattle.kem_mail.specs.declared.error.MailError.{MailError}
@@ -58,3 +58,10 @@ IsRefused NoMemory result faults_before faults_now before now = (result ≡ 6) �
 IsRefused ReadFault result faults_before faults_now before now = (result ≡ 4) × Gains before now []
 IsRefused NotMail result faults_before faults_now before now =
     IsTold result 3 faults_before faults_now before now (codes "! NotMail" ++ 10 ∷ [])
+
+-- what is answered is the meaning; where it is none, the mail is none. Want of memory is free.
+abbrev pub Judges : {X Y : Type 0} → (X → Y) → Result X MailError → Option Y → Type 0
+Judges view (Ok x) meaning = meaning ≡ Some (view x)
+Judges view (Err NoMemory) meaning = Unit {0}
+Judges view (Err ReadFault) meaning = ⊥
+Judges view (Err NotMail) meaning = meaning ≡ None

@@ -1,9 +1,9 @@
 //! The messages of a mail.
 
-ghost use Rattle.std.specs.Prelude.{◌≡◌, ◌==◌, [], length, slice_get};
+ghost use Rattle.std.specs.Prelude.{◌≡◌, ◌==◌, ◌∷◌, ◌++◌, [], length, slice_get, OnOk};
 ghost use Rattle.std.specs.Option.{option_copied};
 
-use std::alloc::Global;
+use std::alloc::{AllocError, Global};
 use std::marker::Model;
 
 /// The messages of a mail, in order.
@@ -28,6 +28,14 @@ impl MessageList {
         MessageList {
             items: Vec::new(alloc),
         }
+    }
+
+    /// Puts a message behind the others. At want of memory the list stays as it was.
+    pub(crate) fn push(&mut self, message: Vec<u8>) -> Result<(), AllocError>
+        ensures pushed { OnOk result (self.new ≡ self.old ++ message.items ∷ []) }
+    {
+        self.items.push(message)?;
+        Ok(())
     }
 
     /// How many messages there are.

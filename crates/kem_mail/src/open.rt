@@ -1,13 +1,15 @@
 //! Opening a mail.
 
-ghost use Rattle.std.specs.Prelude.{◌≡◌, ◌≢◌, ◌≤◌, ◌↔◌, ℕ, List, [], ◌∷◌, ◌++◌, length, map, drop, codes, Some, None, Option, IfOk, IfErr, IfNone, IfSome, IsTrue, IsErrOf, MatchOption};
+ghost use Rattle.std.specs.Prelude.{◌≡◌, ◌≢◌, ◌≤◌, ◌↔◌, ℕ, List, [], ◌∷◌, ◌++◌, length, map, drop, codes, Some, None, Option, IfOk, IfErr, IfNone, IfSome, IsTrue, IsErrOf, OnOk, ◌⊎◌};
 ghost use Rattle.std.specs.Option.{option_copied};
 ghost use Rattle.std.specs.Str.{bytes_eq};
 ghost use Rattle.age_core.specs.Reading.{NoneDone};
 ghost use Rattle.age_core.specs.Outside.{Rose};
 ghost use Rattle.age_core.specs.Stanza.{stanza_of};
-ghost use Rattle.kem_mail.specs.Mail.{Opens, bodies, judged};
-ghost use Rattle.kem_mail.specs.Taking.{EndsAt, IsOnly};
+ghost use Rattle.hpke.specs.Schedule.{Suite, mode_base, receiver_setup};
+ghost use Rattle.hpke.specs.Messages.{used};
+ghost use Rattle.kem_mail.specs.Mail.{Opens, bodies, judged, open_next, opened};
+ghost use Rattle.kem_mail.specs.Taking.{EndsAt, IsOnly, Judges};
 
 use crate::error::MailError;
 use crate::list::MessageList;
@@ -15,7 +17,7 @@ use crate::taking::{Stop, read_within};
 use age_core::format::{Stanza, stanzas_of};
 use age_core::laws;
 use age_core::outside::Source;
-use hpke::{Kem, Serializable};
+use hpke::{Aead, AeadCtxR, Deserializable, HpkeError, Kdf, Kem, OpModeR, setup_receiver};
 use std::alloc::Global;
 
 /// The tag of the stanza whose body is the encapsulated key.
@@ -63,48 +65,136 @@ fn key_of(stanzas: &[Stanza]) -> Option<&[u8]>
     found
 }
 
-/// Whether a stanza holds a sealed message.
-fn has_messages(stanzas: &[Stanza]) -> bool
-    ensures { IsTrue result ↔ (bodies (codes "msg") (map stanza_of stanzas.now) ≢ []) }
+/// The encapsulated key that has these bytes. `NotMail` comes only for another length than its own.
+fn key_from<K: Kem>(alloc: Global, encoded: &[u8]) -> Result<K::EncappedKey, MailError>
+    ensures value { IfOk result (λ key. K.EncappedKey.bytes key ≡ encoded.now) }
+    ensures size { OnOk result (length encoded.now ≡ K.EncappedKey.wire_size) }
+    ensures refused { IfErr result (λ e. (e ≡ MailError.NoMemory) ⊎ ((e ≡ MailError.NotMail) × (length encoded.now ≢ K.EncappedKey.wire_size))) }
 {
+    match K::EncappedKey::from_bytes(alloc, encoded) {
+        Ok(key) => Ok(key),
+        Err(HpkeError::IncorrectInputLength(_, _)) => Err(MailError::NotMail),
+        Err(_) => Err(MailError::NoMemory),
+    }
+}
+
+/// Opens a sealed message under the next number of a context.
+fn open_next<A: Aead, D: Kdf, K: Kem>(
+    alloc: Global,
+    ctx: &mut AeadCtxR<A, D, K>,
+    sealed: &[u8],
+) -> Result<Vec<u8>, MailError>
+    ensures text { Judges (λ text. text.items) result (open_next A.AeadImpl.open_of ctx.old sealed.now) }
+    ensures used { OnOk result (ctx.new ≡ used ctx.old) }
+{
+    match ctx.open(alloc, sealed, &[]) {
+        Ok(text) => Ok(text),
+        Err(HpkeError::OpenError) => Err(MailError::NotMail),
+        Err(HpkeError::MessageLimitReached) => Err(MailError::NotMail),
+        Err(_) => Err(MailError::NoMemory),
+    }
+}
+
+/// Opens the sealed messages of a list of stanzas, in order.
+fn open_messages<A: Aead, D: Kdf, K: Kem>(
+    alloc: Global,
+    ctx: &mut AeadCtxR<A, D, K>,
+    stanzas: &[Stanza],
+) -> Result<MessageList, MailError>
+    ensures { Judges (λ messages. messages) result
+        (opened A.AeadImpl.open_of ctx.old (bodies (codes "msg") (map stanza_of stanzas.now))) }
+{
+    let mut messages = MessageList::new(alloc);
     for stanza in stanzas {
         if has_tag(stanza, MESSAGE_TAG) {
-            return true;
+            let message = open_next(alloc, ctx, stanza.body.as_slice())?;
+            messages.push(message)?;
         }
     }
-    false
+    Ok(messages)
 }
 
-/// What a list of stanzas holds: the messages of a mail with a key of so many bytes.
-fn judge(alloc: Global, stanzas: &[Stanza], size: usize) -> Option<MessageList>
-    ensures { result ≡ judged size (bodies (codes "kem") (map stanza_of stanzas.now)) (bodies (codes "msg") (map stanza_of stanzas.now)) }
+/// What a list of stanzas holds: the messages of a mail, opened with a private key.
+fn judge<'a, K: Kem, D: Kdf, A: Aead>(
+    alloc: Global,
+    sk: &'a K::PrivateKey,
+    info: &[u8],
+    stanzas: &[Stanza],
+) -> Result<MessageList, MailError>
+    ensures { let suite : Suite = record {
+      hash = D.HashImpl.hash_of;
+      block_size = D.HashImpl.BLOCK_SIZE;
+      digest_size = D.HashImpl.DIGEST_SIZE;
+      key_size = A.AeadImpl.KEY_SIZE;
+      nonce_size = A.AeadImpl.NONCE_SIZE;
+      kem_id = K.KEM_ID;
+      kdf_id = D.KDF_ID;
+      aead_id = A.AEAD_ID;
+    } in Judges (λ messages. messages) result
+        (judged (record {
+          key_size = K.EncappedKey.wire_size;
+          context_of = λ key. receiver_setup suite mode_base info.now [] [] (K.decap_of (K.PrivateKey.bytes sk.now) None key);
+          open_of = A.AeadImpl.open_of;
+        }) (bodies (codes "kem") (map stanza_of stanzas.now)) (bodies (codes "msg") (map stanza_of stanzas.now))) }
 {
-    let key = key_of(stanzas)?;
-    if key.len() != size || has_messages(stanzas) {
-        return None;
-    }
-    Some(MessageList::new(alloc))
+    let Some(encoded) = key_of(stanzas) else {
+        return Err(MailError::NotMail);
+    };
+    let key = key_from::<K>(alloc, encoded)?;
+    let mut ctx = match setup_receiver::<A, D, K>(alloc, &OpModeR::Base, sk, &key, info) {
+        Ok(ctx) => ctx,
+        Err(_) => return Err(MailError::NoMemory),
+    };
+    open_messages(alloc, &mut ctx, stanzas)
 }
 
-/// Opens the mail that the first `budget` bytes of a source hold, with a private key.
+/// Opens the mail that the first `budget` bytes of a source hold, with a private key, in mode Base of
+/// HPKE (RFC 9180, section 5).
 ///
 /// Stanzas are taken up to the first tagged `done`. Exactly one of them is tagged `kem`, and its body
-/// has the length of an encapsulated key; a mail with a stanza tagged `msg` is refused. Other tags,
-/// arguments and what stands behind `done` are free.
+/// has the length of an encapsulated key. The bodies of those tagged `msg` are the sealed messages,
+/// which open in order, without associated data. Other tags, arguments, the order of `kem` and `msg`
+/// and what stands behind `done` are free.
 ///
 /// The bytes are read up to the budget, the end of the source or its first fault, and then judged.
 /// `ReadFault` comes only where the source's count of faults rose and no whole `done` was read;
 /// `NotMail` exactly where the bytes hold no such mail, which yields to `ReadFault` and `NoMemory`.
-pub fn open_with<K: Kem, S: Source>(
+pub fn open_with<K: Kem, D: Kdf, A: Aead, S: Source>(
     alloc: Global,
-    _sk: &K::PrivateKey,
-    _info: &[u8],
+    sk: &K::PrivateKey,
+    info: &[u8],
     src: &mut S,
     budget: u64,
 ) -> Result<MessageList, MailError>
-    ensures plain { IfOk result (λ messages. IfSome (S.left src.old) (λ text. Opens K.EncappedKey.wire_size text budget messages)) }
-    ensures not_mail { IsErrOf result MailError.NotMail → IfSome (S.left src.old) (λ text.
-        (messages : List (List ℕ)) → Opens K.EncappedKey.wire_size text budget messages → ⊥) }
+    ensures plain { let suite : Suite = record {
+      hash = D.HashImpl.hash_of;
+      block_size = D.HashImpl.BLOCK_SIZE;
+      digest_size = D.HashImpl.DIGEST_SIZE;
+      key_size = A.AeadImpl.KEY_SIZE;
+      nonce_size = A.AeadImpl.NONCE_SIZE;
+      kem_id = K.KEM_ID;
+      kdf_id = D.KDF_ID;
+      aead_id = A.AEAD_ID;
+    } in IfOk result (λ messages. IfSome (S.left src.old) (λ text. Opens (record {
+      key_size = K.EncappedKey.wire_size;
+      context_of = λ key. receiver_setup suite mode_base info.now [] [] (K.decap_of (K.PrivateKey.bytes sk.now) None key);
+      open_of = A.AeadImpl.open_of;
+    }) text budget messages)) }
+    ensures not_mail { let suite : Suite = record {
+      hash = D.HashImpl.hash_of;
+      block_size = D.HashImpl.BLOCK_SIZE;
+      digest_size = D.HashImpl.DIGEST_SIZE;
+      key_size = A.AeadImpl.KEY_SIZE;
+      nonce_size = A.AeadImpl.NONCE_SIZE;
+      kem_id = K.KEM_ID;
+      kdf_id = D.KDF_ID;
+      aead_id = A.AEAD_ID;
+    } in IsErrOf result MailError.NotMail → IfSome (S.left src.old) (λ text.
+        (messages : List (List ℕ)) → Opens (record {
+          key_size = K.EncappedKey.wire_size;
+          context_of = λ key. receiver_setup suite mode_base info.now [] [] (K.decap_of (K.PrivateKey.bytes sk.now) None key);
+          open_of = A.AeadImpl.open_of;
+        }) text budget messages → ⊥) }
     ensures read_fault { IsErrOf result MailError.ReadFault → Rose (S.faults src.old) (S.faults src.new) }
     // At most the budget was taken.
     ensures taken { IfSome (S.left src.old) (λ text. (n : ℕ) × (n ≤ budget) × (S.left src.new ≡ Some (drop n text))) }
@@ -119,8 +209,5 @@ pub fn open_with<K: Kem, S: Source>(
             Stop::Fault => return Err(MailError::ReadFault),
         }
     };
-    match judge(alloc, &stanzas[..done], K::EncappedKey::size()) {
-        Some(messages) => Ok(messages),
-        None => Err(MailError::NotMail),
-    }
+    judge::<K, D, A>(alloc, sk, info, &stanzas[..done])
 }

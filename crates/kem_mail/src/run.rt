@@ -14,7 +14,7 @@ use crate::lines::write_lines;
 use crate::list::MessageList;
 use crate::open::open_with;
 use age_core::outside::{Failed, Sink, Source, write_all};
-use hpke::{Deserializable, MaskKem, MaskKey};
+use hpke::{AesGcm256, Deserializable, HkdfSha256, MaskKem, MaskKey};
 use std::alloc::Global;
 
 /// The most bytes of a mail that are read.
@@ -79,7 +79,7 @@ fn open_source<S: Source>(alloc: Global, src: &mut S) -> Result<MessageList, Mai
     let Ok(key) = MaskKey::from_bytes(alloc, &head.seed[..KEY_LEN]) else {
         return Err(MailError::NoMemory);
     };
-    open_with::<MaskKem, S>(alloc, &key, &head.info, src, BUDGET)
+    open_with::<MaskKem, HkdfSha256, AesGcm256, S>(alloc, &key, &head.info, src, BUDGET)
 }
 
 /// Writes a line that is due, and answers the status of the run: the given one, or that of a sink

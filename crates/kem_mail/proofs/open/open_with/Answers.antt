@@ -1,8 +1,8 @@
-use Rattle.std.proofs.Common.{◌≡◌, List, ℕ, map, take, sym, subst, Some, None}
+use Rattle.std.proofs.Common.{List, ℕ, map, subst}
 use Rattle.std.proofs.lemmas.List.{take-map}
 use Rattle.age_core.specs.Stanza.{stanza_of}
 use Rattle.age_core.specs.Reading.{Splits, NoneDone}
-use Rattle.kem_mail.proofs.Opening.{judged_before, told_opens, told_refused, told_no_done}
+use Rattle.kem_mail.proofs.Opening.{plain_judged, told_refused, told_no_done}
 use Rattle.kem_mail.specs.Taking.{EndsAt}
 use Rattle.kem_mail.proofs.open.open_with.Goals as goal
 
@@ -13,31 +13,30 @@ returns-in-End-clause-not_mail g c = λ _.
     let split = c.in_ok-stanzas.ensures in
     let splits : Splits bytes stanzas split.0 = subst (λ (t : List ℕ). Splits t stanzas split.0) c.deref.ensures.value split.1 in
     let none : NoneDone stanzas = rw c.deref-2.ensures.value at c.in_default.ensures.none in
-    told_no_done c.one_first_done.ensures.one c.one_first_done.ensures.or_none (g.S.Source.left c.args.src.now) c.args.budget g.K.EncappedKey.Serializable.wire_size bytes split.0 stanzas
+    told_no_done c.one_first_done.ensures.one c.one_first_done.ensures.or_none (g.S.Source.left c.args.src.now) c.args.budget _ bytes split.0 stanzas
     (c.in_ok-held.ensures.whole c.in-End.is) splits none
 
-pub returns-in-Some-judge-clause-plain : goal.returns-in-Some-judge-clause-plain
-returns-in-Some-judge-clause-plain g c =
+pub returns-clause-plain : goal.returns-clause-plain
+returns-clause-plain g c =
     let bytes = c.in_ok-held.held.bytes.items in
     let stanzas = map stanza_of c.in_ok-stanzas.stanzas.items in
     let split = c.in_ok-stanzas.ensures in
     let splits : Splits bytes stanzas split.0 = subst (λ (t : List ℕ). Splits t stanzas split.0) c.deref.ensures.value split.1 in
     let ends : EndsAt stanzas c.in-Some.done = rw c.deref-2.ensures.value at c.in-Some.ensures.found in
     let front = take-map stanza_of c.in-Some.done c.in_ok-stanzas.stanzas.items in
-    let found : judged_before g.K.EncappedKey.Serializable.wire_size (map stanza_of (take c.in-Some.done c.in_ok-stanzas.stanzas.items)) ≡ Some c.in-Some-judge.messages =
-    sym (rw (c.size.ensures, c.deref-3.ensures.value) at c.in-Some-judge.ensures) in
-    told_opens (g.S.Source.left c.args.src.now) (g.S.Source.left c.read_within.new.src) c.args.budget g.K.EncappedKey.Serializable.wire_size bytes split.0 stanzas c.in-Some.done c.in-Some-judge.messages
-    c.in_ok-held.ensures.front splits ends (rw front found)
+    let judges = rw c.deref-3.ensures.value at c.judge.ensures in
+    plain_judged c.judge.result (g.S.Source.left c.args.src.now) (g.S.Source.left c.read_within.new.src) c.args.budget _ bytes split.0 stanzas c.in-Some.done
+    c.in_ok-held.ensures.front splits ends (rw front judges)
 
 pub returns-clause-not_mail : goal.returns-clause-not_mail
-returns-clause-not_mail g c = λ _.
+returns-clause-not_mail g c = λ e.
     let bytes = c.in_ok-held.held.bytes.items in
     let stanzas = map stanza_of c.in_ok-stanzas.stanzas.items in
     let split = c.in_ok-stanzas.ensures in
     let splits : Splits bytes stanzas split.0 = subst (λ (t : List ℕ). Splits t stanzas split.0) c.deref.ensures.value split.1 in
     let ends : EndsAt stanzas c.in-Some.done = rw c.deref-2.ensures.value at c.in-Some.ensures.found in
     let front = take-map stanza_of c.in-Some.done c.in_ok-stanzas.stanzas.items in
-    let refused : judged_before g.K.EncappedKey.Serializable.wire_size (map stanza_of (take c.in-Some.done c.in_ok-stanzas.stanzas.items)) ≡ None =
-    sym (rw (c.size.ensures, c.deref-3.ensures.value) at c.in-None.ensures) in
-    told_refused c.one_first_done.ensures.one c.one_first_done.ensures.or_none (g.S.Source.left c.args.src.now) (g.S.Source.left c.read_within.new.src) c.args.budget g.K.EncappedKey.Serializable.wire_size
+    let judges = rw c.deref-3.ensures.value at c.judge.ensures in
+    let refused = rw e at judges in
+    told_refused c.one_first_done.ensures.one c.one_first_done.ensures.or_none (g.S.Source.left c.args.src.now) (g.S.Source.left c.read_within.new.src) c.args.budget _
     bytes split.0 stanzas c.in-Some.done c.in_ok-held.ensures.front splits ends (rw front refused)
