@@ -1,0 +1,2 @@
+-- sums, differences and products of polynomials
+pub mod Ring
