@@ -2,4 +2,6 @@
 #![tactic(auto)]
 
 #[cfg(test)]
+mod long_mail;
+#[cfg(test)]
 mod tests;

@@ -1,5 +1,6 @@
 //! Whole runs, as tables. The answers are those of an independent model of the program.
 
+use crate::long_mail::{LINE, MAIL};
 use age_core::outside::{CleanSource, MemSink, MemSource, Source};
 use base64::engine::general_purpose::STANDARD_NO_PAD;
 use hpke::{
@@ -334,6 +335,15 @@ fn messages_are_opened_in_order(rt: HostRuntime) -> Result<(), Fail> {
     Ok(())
 }
 
+#[test]
+fn a_long_message_of_the_model_is_opened(rt: HostRuntime) -> Result<(), Fail> {
+    let mut src = CleanSource::new(Vec::from_slice(rt.alloc(), MAIL)?);
+    let answer = run(rt.alloc(), &OPEN, &mut src, &[])?;
+    assert_eq!(rt; answer.status, 0);
+    assert!(rt; answer.output.as_slice() == LINE);
+    Ok(())
+}
+
 /// Appends the stanza with this tag and body.
 fn push_stanza(
     alloc: Global,
@@ -390,7 +400,7 @@ fn what_a_sender_sealed_is_opened(rt: HostRuntime) -> Result<(), Fail> {
 }
 
 #[test]
-fn a_long_message_is_opened(rt: HostRuntime) -> Result<(), Fail> {
+fn a_long_message_that_was_sealed_is_opened(rt: HostRuntime) -> Result<(), Fail> {
     let message = vec![in rt.alloc(); 0xab; 65536]?;
     let text = sent(rt.alloc(), &[message.as_slice()])?;
     let mut src = CleanSource::new(text);

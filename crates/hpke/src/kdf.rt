@@ -58,6 +58,15 @@ pub fn labeled_extract<D: Kdf>(
 
 /// Expansion under a label.
 pub trait LabeledExpand {
+    // The most bytes that one call gives.
+    ghost max_output: { ℕ };
+
+    // Whether this value expands from this pseudorandom key.
+    ghost expands_from: { Self → List ℕ → Type 0 };
+
+    // The output from a pseudorandom key, for a suite, a label, an info string and a length.
+    ghost labeled_expand_of: { List ℕ → List ℕ → List ℕ → List ℕ → ℕ → List ℕ };
+
     /// LabeledExpand (RFC 9180, section 4): fills `out` with the output under this label and info
     /// string. An `out` that is longer than 255 digests is refused, and stays as it was.
     fn labeled_expand(
@@ -66,22 +75,29 @@ pub trait LabeledExpand {
         label: &[u8],
         info: &[u8],
         out: &mut [u8],
-    ) -> Result<(), InvalidLength>;
+    ) -> Result<(), InvalidLength>
+        ensures invalid_length { IsErr result ↔ (max_output < length out.old) }
+        ensures output { (prk : List ℕ) → expands_from self.now prk
+            → OnOk result (out.new ≡ labeled_expand_of prk suite_id.now label.now info.now (length out.old)) }
+        ensures refused { OnErr result (out.new ≡ out.old) };
 }
 
 impl<T: HkdfHash> LabeledExpand for Hkdf<T> {
+    ghost use Rattle.hkdf_core.specs.declared.derivation.TheConstants.{MAX_OUTPUT_BLOCKS};
+
+    ghost max_output = { MAX_OUTPUT_BLOCKS * T.DIGEST_SIZE };
+
+    ghost expands_from = { λ hkdf prk. hkdf ≡ key_block T.hash_of T.BLOCK_SIZE prk };
+
+    ghost labeled_expand_of = { labeled_expand T.hash_of T.BLOCK_SIZE };
+
     fn labeled_expand(
         &self,
         suite_id: &[u8],
         label: &[u8],
         info: &[u8],
         out: &mut [u8],
-    ) -> Result<(), InvalidLength>
-        ensures invalid_length { IsErr result ↔ (MAX_OUTPUT_BLOCKS * T.DIGEST_SIZE < length out.old) }
-        ensures output { (prk : List ℕ) → self.now ≡ key_block T.hash_of T.BLOCK_SIZE prk
-            → OnOk result (out.new ≡ labeled_expand T.hash_of T.BLOCK_SIZE prk suite_id.now label.now info.now (length out.old)) }
-        ensures refused { OnErr result (out.new ≡ out.old) }
-    {
+    ) -> Result<(), InvalidLength> {
         if out.len() > MAX_OUTPUT_BLOCKS * T::DIGEST_SIZE {
             return Err(InvalidLength);
         }
