@@ -4,6 +4,7 @@ ghost use Rattle.std.specs.Prelude.{◌≡◌, ◌<◌};
 ghost use Rattle.module_lattice.specs.Ring.{plus, minus, negated, times};
 
 use crate::field::Field;
+use ctutils::{Choice, CtEq, CtEqSlice};
 use std::marker::{Model, PhantomData};
 use std::ops::{Add, Mul, Neg, Sub};
 
@@ -86,3 +87,18 @@ impl<F: Field> Mul<Elem<F>> for Elem<F> {
         Elem::new(F::barrett_reduce(u64::from(self.value) * u64::from(rhs.value)))
     }
 }
+
+impl<F: Field> CtEq for Elem<F> {
+    ghost use Rattle.std.specs.Prelude.{nat_eq};
+    ghost use Rattle.std.specs.Cmp.{nat_eq_equiv};
+
+    ghost ct_eq = { nat_eq };
+
+    ghost laws = { nat_eq_equiv };
+
+    fn ct_eq(&self, other: &Self) -> Choice {
+        self.value.ct_eq(&other.value)
+    }
+}
+
+impl<F: Field> CtEqSlice for Elem<F> {}
