@@ -1,1 +1,4 @@
+mod Modular
 mod Places
+mod Totals
+mod Vectors

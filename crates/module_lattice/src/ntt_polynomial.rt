@@ -59,6 +59,14 @@ impl<F: Field> NttPolynomial<F> {
         self.values
     }
 
+    /// Adds a polynomial to this one.
+    pub(crate) fn add_assign(&mut self, rhs: &NttPolynomial<F>)
+        ensures value { self.new ≡ sum F.Q self.old rhs.now }
+        ensures polynomial { IsPolynomial F.Q rhs.now }
+    {
+        self.values = coefficients::add::<F>(&self.values, &rhs.values);
+    }
+
     /// The numbers.
     pub(crate) fn as_array(&self) -> &[u32; DEGREE]
         ensures value { result.now ≡ self.now }

@@ -1,0 +1,10 @@
+use Rattle.std.proofs.Common.{rules, ◌++◌, ◌∷◌, [], ◌∙◌, ap}
+use Rattle.module_lattice.specs.Ring.{negation}
+use Rattle.module_lattice.proofs.Vectors.{mapped_more}
+use Rattle.module_lattice.proofs.vector.Vector.neg.Goals as goal
+
+pub loop-i-preserved : goal.loop-i-preserved
+loop-i-preserved g c =
+    c.in_ok-push.ensures.items ∙ ap (λ z. c.loop-i.items.items ++ z ∷ []) c.neg.ensures
+    ∙ mapped_more (negation g.F.Field.Q) c.self.inside.items.items c.loop-i.items.items c.loop-i.i _
+    (search rules) (search rules) c.loop-i.invariant

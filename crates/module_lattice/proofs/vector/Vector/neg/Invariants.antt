@@ -1,0 +1,6 @@
+use Rattle.std.proofs.Common.{◌≡◌, take}
+use Rattle.module_lattice.specs.Vectors.{vector_negation}
+use Rattle.module_lattice.proofs.vector.Vector.neg.Given as goal
+
+abbrev pub invariant-loop-i : goal.invariant-loop-i
+invariant-loop-i g l = l.items.items ≡ take l.i (vector_negation g.F.Field.Q l.self-inside.items.items)
