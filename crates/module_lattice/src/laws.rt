@@ -1,7 +1,10 @@
-//! What holds of elements, polynomials, vectors and matrices.
+//! What holds of elements, of equality at each type, and of packed numbers.
 
-ghost use Rattle.std.specs.Prelude.{◌≡◌, ◌<◌, ℕ, List};
-ghost use Rattle.module_lattice.specs.Ring.{IsPolynomial, plus, minus, negated, times};
+ghost use Rattle.std.specs.Prelude.{◌≡◌, ◌+◌, ◌*◌, ◌/◌, ◌%◌, ◌^◌, ◌<◌, ◌≤◌, ℕ, All, List, length, slice_index};
+ghost use Rattle.std.specs.Int.{bit_at};
+ghost use Rattle.module_lattice.specs.Bits.{byte_bit};
+ghost use Rattle.module_lattice.specs.Groups.{decode12, groups, ungroup};
+ghost use Rattle.module_lattice.specs.Ring.{plus, minus, negated, times};
 
 use crate::elem::Elem;
 use crate::field::Field;
@@ -42,4 +45,40 @@ pub fn ct_eq_agrees<F: Field>()
     ensures vectors { (u v : List (List ℕ)) → ⟦<Vector<F> as CtEq>⟧.ct_eq u v ≡ ⟦<Vector<F> as PartialEq>⟧.eq u v }
     ensures ntt_vectors { (u v : List (List ℕ)) → ⟦<NttVector<F> as CtEq>⟧.ct_eq u v ≡ ⟦<NttVector<F> as PartialEq>⟧.eq u v }
     ensures ntt_matrices { (m n : List (List (List ℕ))) → ⟦<NttMatrix<F> as CtEq>⟧.ct_eq m n ≡ ⟦<NttMatrix<F> as PartialEq>⟧.eq m n }
+{}
+
+/// Bit d·i + j of packed bytes is bit j of number i, where the numbers make whole bytes (FIPS 203,
+/// section 4.2.1).
+pub fn packed_bits()
+    ensures groups { (d : ℕ) (values : List ℕ) (i j : ℕ) → d * length values % 8 ≡ 0
+        → i < length values → j < d
+        → byte_bit (groups d values) (d * i + j) ≡ bit_at (slice_index values i) j }
+    ensures ungroup { (d : ℕ) (bytes : List ℕ) (i j : ℕ) → 1 ≤ d → 8 * length bytes % d ≡ 0
+        → i < length (ungroup d bytes) → j < d
+        → bit_at (slice_index (ungroup d bytes) i) j ≡ byte_bit bytes (d * i + j) }
+{}
+
+/// Packing and unpacking change neither how many bits there are nor how many a number has.
+pub fn packed_sizes()
+    ensures groups { (d : ℕ) (values : List ℕ) → d * length values % 8 ≡ 0
+        → 8 * length (groups d values) ≡ d * length values }
+    ensures bytes { (d : ℕ) (values : List ℕ) → All (λ x. x < 2 ^ 8) (groups d values) }
+    ensures ungroup { (d : ℕ) (bytes : List ℕ) → 1 ≤ d → 8 * length bytes % d ≡ 0
+        → d * length (ungroup d bytes) ≡ 8 * length bytes }
+    ensures numbers { (d : ℕ) (bytes : List ℕ) → All (λ x. x < 2 ^ d) (ungroup d bytes) }
+{}
+
+/// Numbers that make whole bytes are what their bytes unpack to, at 12 bits too if they are below q.
+pub fn unpacking_packed()
+    ensures ungroup { (d : ℕ) (values : List ℕ) → 1 ≤ d → d * length values % 8 ≡ 0
+        → All (λ x. x < 2 ^ d) values → ungroup d (groups d values) ≡ values }
+    ensures decode12 { (q : ℕ) (values : List ℕ) → 12 * length values % 8 ≡ 0
+        → All (λ x. x < 2 ^ 12) values → All (λ x. x < q) values
+        → decode12 q (groups 12 values) ≡ values }
+{}
+
+/// Bytes that make whole numbers are what their numbers pack to.
+pub fn packing_unpacked()
+    ensures { (d : ℕ) (bytes : List ℕ) → 1 ≤ d → 8 * length bytes % d ≡ 0
+        → All (λ x. x < 2 ^ 8) bytes → groups d (ungroup d bytes) ≡ bytes }
 {}

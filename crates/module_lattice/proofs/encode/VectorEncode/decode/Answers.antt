@@ -1,0 +1,19 @@
+use Rattle.std.proofs.Common.{rules, ◌≡◌, ℕ, List, ◌+◌, ◌-◌, ◌*◌, ◌++◌, ◌∷◌, [], take, drop, ap, ◌∙◌, arith}
+use Rattle.module_lattice.specs.Groups.{decoded}
+use Rattle.module_lattice.proofs.Encoding.{decoded_more, decoded_done}
+use Rattle.module_lattice.proofs.encode.VectorEncode.decode.Goals as goal
+
+pub loop-i-preserved : goal.loop-i-preserved
+loop-i-preserved g c =
+    let q : ℕ = g.F.Field.Q in
+    let d : ℕ = c.args.d in
+    let start : ℕ = 32 * d * c.loop-i.i in
+    let bytes : List ℕ = c.args.bytes.now in
+    let piece : start + 32 * d - start ≡ 32 * d = omega arith in
+    c.in_ok-push.ensures.items ∙ ap (λ z. c.loop-i.items.items ++ z ∷ []) c.new.ensures
+    ∙ decoded_more q d c.args.count bytes c.loop-i.i c.loop-i.items.items c.decode_one.result (search rules)
+    (c.decode_one.ensures.value ∙ ap (λ (k : ℕ). decoded q d (take k (drop start bytes))) piece) c.loop-i.invariant
+
+pub returns-clause-value : goal.returns-clause-value
+returns-clause-value g c =
+    c.new-2.ensures ∙ decoded_done g.F.Field.Q c.args.d c.args.count c.args.bytes.now c.loop-i.i c.loop-i.items.items (search rules) c.loop-i.invariant
