@@ -5,10 +5,10 @@ use Rattle.std.proofs.lemmas.List.Concat.{get_or-flat_map}
 use Rattle.std.proofs.lemmas.List.Elements.{All-head, All-tail}
 use Rattle.std.proofs.lemmas.Nat.{shr-shr, shr_split}
 use Rattle.std.proofs.lemmas.Nat.Bits.{bit_at-suc, bit_at-zero, bit_at_cat_low}
-use Rattle.module_lattice.specs.Bits.{bits_of, bits_of_each, byte_bit, number_of, numbers_in}
+use Rattle.module_lattice.specs.Bits.{bits_of, bits_of_each, byte_bit, number_of}
 use Rattle.module_lattice.specs.Groups.{groups, ungroup}
-use Rattle.module_lattice.proofs.BitLists.{All-bits_of_each, length-bits_of, length-bits_of_each, numbers_in-at}
-use Rattle.module_lattice.proofs.Units.{groups-whole, ungroup-whole}
+use Rattle.module_lattice.proofs.BitLists.{All-bits_of_each, length-bits_of, length-bits_of_each}
+use Rattle.module_lattice.proofs.Regrouping.{get_or-regroup, regroup}
 
 -- ---- the bits of numbers
 
@@ -18,7 +18,7 @@ get_or-bits_of zero x j lt = absurd (omega arith)
 get_or-bits_of (suc d) x zero lt = omega arith
 get_or-bits_of (suc d) x (suc j) lt = get_or-bits_of d (x / 2) j (omega arith) ∙ sym (bit_at-suc x j)
 
-pub get_or-bits_of_each : (d : ℕ) (xs : List ℕ) (i j : ℕ) → i < length xs → j < d → get_or (bits_of_each d xs) (d * i + j) 0 ≡ bit_at (slice_index xs i) j
+get_or-bits_of_each : (d : ℕ) (xs : List ℕ) (i j : ℕ) → i < length xs → j < d → get_or (bits_of_each d xs) (d * i + j) 0 ≡ bit_at (slice_index xs i) j
 unfolding bits_of_each
 get_or-bits_of_each d xs i j li lj =
     let x : ℕ = slice_index xs i in
@@ -28,7 +28,7 @@ get_or-bits_of_each d xs i j li lj =
     ∙ get_or-bits_of d x j lj
 
 -- bit k, of bytes
-pub get_or-bytes : (bytes : List ℕ) (k : ℕ) → k < 8 * length bytes → get_or (bits_of_each 8 bytes) k 0 ≡ byte_bit bytes k
+get_or-bytes : (bytes : List ℕ) (k : ℕ) → k < 8 * length bytes → get_or (bits_of_each 8 bytes) k 0 ≡ byte_bit bytes k
 get_or-bytes bytes k lt =
     let place : k ≡ 8 * (k / 8) + k % 8 = omega arith in
     ap (λ (m : ℕ). get_or (bits_of_each 8 bytes) m 0) place ∙ get_or-bits_of_each 8 bytes (k / 8) (k % 8) (omega arith) (omega arith)
@@ -50,32 +50,30 @@ bit_at-field x k d j lt =
     let y : ℕ = x / 2 ^ k in
     sym (bit_at_cat_low (y / 2 ^ d) d (y % 2 ^ d) j lt) ∙ ap (λ (z : ℕ). bit_at z j) (shr_split y d) ∙ ap (λ (z : ℕ). z % 2) (shr-shr x k j)
 
-pub bit_at-numbers_in : (d n : ℕ) (bits : List ℕ) (i j : ℕ) → All (λ b. b < 2) bits → length bits ≡ d * n → i < n → j < d
-    → bit_at (slice_index (numbers_in d n bits) i) j ≡ get_or bits (d * i + j) 0
-bit_at-numbers_in d n bits i j each len li lj =
-    ap (λ (x : ℕ). bit_at x j) (numbers_in-at d n bits i each len li)
-    ∙ bit_at-field (number_of bits) (d * i) d j lj
-    ∙ bit_at-number_of bits (d * i + j) each
-
 -- ---- the bits of packed and unpacked numbers
+
+bit_at-regroup : (d w n : ℕ) (xs : List ℕ) (i j : ℕ) → 1 ≤ w → d * length xs ≡ w * n → i < n → j < w
+    → bit_at (slice_index (regroup d w xs) i) j ≡ get_or (bits_of_each d xs) (w * i + j) 0
+bit_at-regroup d w n xs i j positive whole li lj =
+    let bits : List ℕ = bits_of_each d xs in
+    ap (λ (x : ℕ). bit_at x j) (get_or-regroup d w n xs i positive whole li)
+    ∙ bit_at-field (number_of bits) (w * i) w j lj
+    ∙ bit_at-number_of bits (w * i + j) (All-bits_of_each d xs)
 
 pub byte_bit-groups : (d n : ℕ) (values : List ℕ) (i j : ℕ) → d * length values ≡ 8 * n → i < length values → j < d
     → byte_bit (groups d values) (d * i + j) ≡ bit_at (slice_index values i) j
+unfolding groups
 byte_bit-groups d n values i j whole li lj =
     let k : ℕ = d * i + j in
-    let bits : List ℕ = bits_of_each d values in
     let within : d * i + d ≤ d * length values = omega (arith, mul-le-mul_left d li) in
     let place : 8 * (k / 8) + k % 8 ≡ k = omega arith in
-    ap (λ (x : List ℕ). byte_bit x k) (groups-whole d n values whole)
-    ∙ bit_at-numbers_in 8 n bits (k / 8) (k % 8) (All-bits_of_each d values) (length-bits_of_each d values ∙ whole) (omega arith) (omega arith)
-    ∙ ap (λ (m : ℕ). get_or bits m 0) place
+    bit_at-regroup d 8 n values (k / 8) (k % 8) (omega arith) whole (omega arith) (omega arith)
+    ∙ ap (λ (m : ℕ). get_or (bits_of_each d values) m 0) place
     ∙ get_or-bits_of_each d values i j li lj
 
 pub bit_at-ungroup : (d n : ℕ) (bytes : List ℕ) (i j : ℕ) → 1 ≤ d → 8 * length bytes ≡ d * n → i < n → j < d
     → bit_at (slice_index (ungroup d bytes) i) j ≡ byte_bit bytes (d * i + j)
+unfolding ungroup
 bit_at-ungroup d n bytes i j positive whole li lj =
-    let bits : List ℕ = bits_of_each 8 bytes in
     let within : d * i + d ≤ d * n = omega (arith, mul-le-mul_left d li) in
-    ap (λ (x : List ℕ). bit_at (slice_index x i) j) (ungroup-whole d n bytes positive whole)
-    ∙ bit_at-numbers_in d n bits i j (All-bits_of_each 8 bytes) (length-bits_of_each 8 bytes ∙ whole) li lj
-    ∙ get_or-bytes bytes (d * i + j) (omega arith)
+    bit_at-regroup 8 d n bytes i j positive whole li lj ∙ get_or-bytes bytes (d * i + j) (omega arith)

@@ -13,7 +13,7 @@ unfolding bits_of
 length-bits_of zero x = refl
 length-bits_of (suc d) x = ap suc (length-bits_of d (x / 2))
 
-pub All-bits_of : (d x : ℕ) → All (λ b. b < 2) (bits_of d x)
+All-bits_of : (d x : ℕ) → All (λ b. b < 2) (bits_of d x)
 unfolding bits_of
 All-bits_of zero x = All-nil (λ b. b < 2)
 All-bits_of (suc d) x = All-cons (λ b. b < 2) (x % 2) (bits_of d (x / 2)) (omega arith) (All-bits_of d (x / 2))
@@ -35,7 +35,7 @@ unfolding bits_of number_of
 number_of-bits_of zero x = omega arith
 number_of-bits_of (suc d) x = omega (arith, number_of-bits_of d (x / 2), rw add-one at (mod-pow-add x d 1))
 
-pub bits_of-number_of : (bits : List ℕ) (d : ℕ) → All (λ b. b < 2) bits → length bits ≡ d → bits_of d (number_of bits) ≡ bits
+bits_of-number_of : (bits : List ℕ) (d : ℕ) → All (λ b. b < 2) bits → length bits ≡ d → bits_of d (number_of bits) ≡ bits
 unfolding bits_of number_of
 bits_of-number_of [] zero each len = refl
 bits_of-number_of [] (suc d) each len = absurd (omega arith)
@@ -131,7 +131,7 @@ number_of-split k bits each fits =
     )
 
 -- the number of d bits from place k on
-pub number_of-part : (d k : ℕ) (bits : List ℕ) → All (λ b. b < 2) bits → k + d ≤ length bits → number_of (take d (drop k bits)) ≡ number_of bits / 2 ^ k % 2 ^ d
+number_of-part : (d k : ℕ) (bits : List ℕ) → All (λ b. b < 2) bits → k + d ≤ length bits → number_of (take d (drop k bits)) ≡ number_of bits / 2 ^ k % 2 ^ d
 number_of-part d k bits each fits =
     let rest : List ℕ = drop k bits in
     let outer = number_of-split k bits each (omega arith) in

@@ -1,13 +1,19 @@
 -- Vectors in bytes, polynomial by polynomial.
-use Rattle.std.proofs.Common.{◌≡◌, ◌≢◌, ℕ, zero, suc, ◌+◌, ◌*◌, ◌<◌, ◌≤◌, List, [], ◌∷◌, ◌++◌, length, take, drop, get_or, slice_get, Some, if◌then◌else◌, refl, sym, ap, ◌∙◌, arith, append-nil, mul-le-mul_left, mul-zero, take_all, drop-drop}
+use Rattle.std.proofs.Common.{◌≡◌, ◌≢◌, ℕ, zero, suc, ◌+◌, ◌*◌, ◌^◌, ◌<◌, ◌≤◌, inl, inr, All, map, ap₂, List, [], ◌∷◌, ◌++◌, length, take, drop, get_or, slice_get, Some, if◌then◌else◌, refl, sym, ap, ◌∙◌, arith, append-nil, mul-le-mul_left, mul-zero, take_all, drop-drop}
 use Rattle.std.specs.List.{flat_map}
-use Rattle.std.proofs.lemmas.Bool.{eq-eqb, ne_eqb}
+use Rattle.std.proofs.Math.Seq.{drop-append_seam, take-append_seam}
+use Rattle.std.proofs.lemmas.Bool.{cases_eq, cases_lt, eq-eqb, ne_eqb}
+use Rattle.std.proofs.lemmas.Bool.Decides.{nat_tests}
+use Rattle.std.proofs.lemmas.List.Elements.{All-cons, All-head, All-map, All-same, All-tail, All-weaker}
 use Rattle.std.proofs.lemmas.Grind.{flat_map-append}
 use Rattle.std.proofs.lemmas.List.{take_more}
 use Rattle.std.proofs.lemmas.Option.{get_or_from_slice_get}
 use Rattle.std.proofs.lemmas.Slice.{take-put_mid}
 use borrow.Rule.Slice.PartMut.{put_mid}
-use Rattle.module_lattice.specs.Groups.{decode12, decoded, decoded_each, ungroup}
+use Rattle.module_lattice.specs.Groups.{decode12, decoded, decoded_each, groups, reduced_once, ungroup}
+use Rattle.module_lattice.specs.Ring.{IsPolynomial}
+use Rattle.module_lattice.proofs.Regrouping.{All-regroup, length-regroup, regroup-regroup}
+use Rattle.module_lattice.proofs.Units.{decode12-groups}
 use Rattle.module_lattice.proofs.Vectors.{pushed}
 
 -- at 12 bits and at others
@@ -16,6 +22,57 @@ decoded-12 q d bytes is = ap (λ t. if t then decode12 q bytes else ungroup d by
 
 pub decoded-other : (q d : ℕ) (bytes : List ℕ) → d ≢ 12 → decoded q d bytes ≡ ungroup d bytes
 decoded-other q d bytes not = ap (λ t. if t then decode12 q bytes else ungroup d bytes) (ne_eqb d 12 not)
+
+-- 256 numbers in bytes
+pub length-groups : (d : ℕ) (f : List ℕ) → length f ≡ 256 → length (groups d f) ≡ 32 * d
+unfolding groups
+length-groups d f long = length-regroup d 8 (32 * d) f (omega arith) (ap (λ (k : ℕ). d * k) long ∙ omega arith)
+
+-- numbers that one subtraction may lower stay below a bound
+All-lowered : (q n : ℕ) (xs : List ℕ) → All (λ x. x < n) xs → All (λ x. x < n) (map (reduced_once q) xs)
+All-lowered q n xs each =
+    All-map (λ x. x < n) (reduced_once q) xs (All-weaker (λ x. x < n) (λ x. reduced_once q x < n) (λ x lt.
+    elim (cases_lt x q) [
+      | inl below ↦ grind (arith, nat_tests)
+      | inr above ↦ grind (arith, nat_tests)
+    ]) xs each)
+
+-- numbers of d bits are below 2^d
+pub All-decoded : (q d : ℕ) (bytes : List ℕ) → All (λ x. x < 2 ^ d) (decoded q d bytes)
+unfolding decode12 ungroup
+All-decoded q d bytes = elim (cases_eq d 12) [
+  | inl is ↦ All-same (λ x. x < 2 ^ d) (decoded q d bytes) (decode12 q bytes) (decoded-12 q d bytes is)
+      (rw is (All-lowered q (2 ^ 12) (ungroup 12 bytes) (All-regroup 8 12 bytes)))
+  | inr not ↦ All-same (λ x. x < 2 ^ d) (decoded q d bytes) (ungroup d bytes) (decoded-other q d bytes not) (All-regroup 8 d bytes)
+]
+
+pub All-decoded_each : (q d count : ℕ) (bytes : List ℕ) → All (λ f. All (λ x. x < 2 ^ d) f) (decoded_each q d count bytes)
+All-decoded_each q d zero bytes = λ k e within. absurd (omega arith)
+All-decoded_each q d (suc count) bytes =
+    All-cons (λ f. All (λ x. x < 2 ^ d) f) (decoded q d (take (32 * d) bytes)) (decoded_each q d count (drop (32 * d) bytes))
+    (All-decoded q d (take (32 * d) bytes)) (All-decoded_each q d count (drop (32 * d) bytes))
+
+-- what was written is read
+decoded-groups : (q d : ℕ) (f : List ℕ) → 1 ≤ d → length f ≡ 256 → All (λ x. x < 2 ^ d) f → All (λ x. x < q) f → decoded q d (groups d f) ≡ f
+unfolding groups ungroup
+decoded-groups q d f positive long narrow below = elim (cases_eq d 12) [
+  | inl is ↦ decoded-12 q d (groups d f) is ∙ ap (λ (d : ℕ). decode12 q (groups d f)) is
+      ∙ decode12-groups q 384 f (ap (λ (k : ℕ). 12 * k) long) (rw is at narrow) below
+  | inr not ↦ decoded-other q d (groups d f) not
+      ∙ regroup-regroup d 8 (32 * d) f positive (omega arith) (ap (λ (k : ℕ). d * k) long ∙ omega arith) narrow
+]
+
+pub decoded_each-groups : (q d : ℕ) (fs : List (List ℕ)) → 1 ≤ d → All (IsPolynomial q) fs → All (λ f. All (λ x. x < 2 ^ d) f) fs
+    → decoded_each q d (length fs) (flat_map (groups d) fs) ≡ fs
+decoded_each-groups q d [] positive each narrow = refl
+decoded_each-groups q d (f ∷ fs) positive each narrow =
+    let is : IsPolynomial q f = All-head (IsPolynomial q) f fs each in
+    let written : length (groups d f) ≡ 32 * d = length-groups d f is.size in
+    ap₂ (λ g gs. g ∷ gs)
+    (ap (decoded q d) (ap (λ (k : ℕ). take k (groups d f ++ flat_map (groups d) fs)) (sym written) ∙ take-append_seam (groups d f) (flat_map (groups d) fs))
+    ∙ decoded-groups q d f positive is.size (All-head (λ f. All (λ x. x < 2 ^ d) f) f fs narrow) is.each)
+    (ap (decoded_each q d (length fs)) (ap (λ (k : ℕ). drop k (groups d f ++ flat_map (groups d) fs)) (sym written) ∙ drop-append_seam (groups d f) (flat_map (groups d) fs))
+    ∙ decoded_each-groups q d fs positive (All-tail (IsPolynomial q) f fs each) (All-tail (λ f. All (λ x. x < 2 ^ d) f) f fs narrow))
 
 -- the piece at place i of n
 pub piece-room : (size n i : ℕ) → i < n → size * i + size ≤ size * n

@@ -4,5 +4,7 @@ mod Places
 mod Totals
 mod Vectors
 pub mod BitLists
+pub mod Regrouping
+pub mod Words
 pub mod Units
 pub mod BitLaws

@@ -50,6 +50,7 @@ pub trait Encode: Sized + Drop {
         requires count { has_count count }
         requires bytes { length bytes.now ≡ 32 * d * count }
         ensures value { IfOk result (λ value. polynomials value ≡ decoded_each Q d count bytes.now) }
+        ensures in_width { IfOk result (λ value. All (λ f. All (λ x. x < 2 ^ d) f) (polynomials value)) }
         ensures memory { IsErr result → takes_memory };
 }
 
@@ -180,6 +181,7 @@ fn decode_one<F: Field>(d: usize, bytes: &[u8]) -> [u32; DEGREE]
     requires width { (2 ^ d ≤ F.Q) ⊎ ((d ≡ 12) × (4096 ≤ 2 * F.Q)) }
     requires bytes { length bytes.now ≡ 32 * d }
     ensures value { result ≡ decoded F.Q d bytes.now }
+    ensures in_width { All (λ x. x < 2 ^ d) result }
     ensures in_field { All (λ x. x < F.Q) result }
 {
     let mut values = [0; DEGREE];

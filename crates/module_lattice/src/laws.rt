@@ -2,9 +2,10 @@
 
 ghost use Rattle.std.specs.Prelude.{◌≡◌, ◌+◌, ◌*◌, ◌/◌, ◌%◌, ◌^◌, ◌<◌, ◌≤◌, ℕ, All, List, length, slice_index};
 ghost use Rattle.std.specs.Int.{bit_at};
+ghost use Rattle.std.specs.List.{flat_map};
 ghost use Rattle.module_lattice.specs.Bits.{byte_bit};
-ghost use Rattle.module_lattice.specs.Groups.{decode12, groups, ungroup};
-ghost use Rattle.module_lattice.specs.Ring.{plus, minus, negated, times};
+ghost use Rattle.module_lattice.specs.Groups.{decode12, decoded_each, groups, ungroup};
+ghost use Rattle.module_lattice.specs.Ring.{IsPolynomial, plus, minus, negated, times};
 
 use crate::elem::Elem;
 use crate::field::Field;
@@ -58,7 +59,7 @@ pub fn packed_bits()
         → bit_at (slice_index (ungroup d bytes) i) j ≡ byte_bit bytes (d * i + j) }
 {}
 
-/// Packing and unpacking change neither how many bits there are nor how many a number has.
+/// Packing and unpacking keep how many bits there are, and make bytes and numbers of `d` bits.
 pub fn packed_sizes()
     ensures groups { (d : ℕ) (values : List ℕ) → d * length values % 8 ≡ 0
         → 8 * length (groups d values) ≡ d * length values }
@@ -69,7 +70,7 @@ pub fn packed_sizes()
 {}
 
 /// Numbers that make whole bytes are what their bytes unpack to, at 12 bits too if they are below q.
-pub fn unpacking_packed()
+pub fn unpacks_what_was_packed()
     ensures ungroup { (d : ℕ) (values : List ℕ) → 1 ≤ d → d * length values % 8 ≡ 0
         → All (λ x. x < 2 ^ d) values → ungroup d (groups d values) ≡ values }
     ensures decode12 { (q : ℕ) (values : List ℕ) → 12 * length values % 8 ≡ 0
@@ -78,7 +79,14 @@ pub fn unpacking_packed()
 {}
 
 /// Bytes that make whole numbers are what their numbers pack to.
-pub fn packing_unpacked()
+pub fn packs_what_was_unpacked()
     ensures { (d : ℕ) (bytes : List ℕ) → 1 ≤ d → 8 * length bytes % d ≡ 0
         → All (λ x. x < 2 ^ 8) bytes → groups d (ungroup d bytes) ≡ bytes }
+{}
+
+/// Polynomials that were written one after another, `d` bits for each coefficient, are read back.
+pub fn decodes_what_was_encoded()
+    ensures { (q d : ℕ) (fs : List (List ℕ)) → 1 ≤ d → All (IsPolynomial q) fs
+        → All (λ f. All (λ x. x < 2 ^ d) f) fs
+        → decoded_each q d (length fs) (flat_map (groups d) fs) ≡ fs }
 {}

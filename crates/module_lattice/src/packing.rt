@@ -1,6 +1,6 @@
 //! Numbers packed into bytes, and taken out of them (FIPS 203, section 4.2.1).
 
-ghost use Rattle.std.specs.Prelude.{◌≡◌, ◌≢◌, ◌⊎◌, ◌*◌, ◌/◌, ◌%◌, ◌^◌, ◌<◌, ◌≤◌, All, length, map};
+ghost use Rattle.std.specs.Prelude.{◌≡◌, ◌⊎◌, ◌*◌, ◌/◌, ◌%◌, ◌^◌, ◌<◌, ◌≤◌, All, length, map};
 ghost use Rattle.std.specs.List.{range_with_len};
 ghost use Rattle.module_lattice.specs.Bits.{bits_of_each, number_of};
 ghost use Rattle.module_lattice.specs.Groups.{decoded, groups, lcm, reduced_once, ungroup};
@@ -17,12 +17,13 @@ const BYTE_BITS: usize = 8;
 // bytes.
 const WORD_LEN: usize = 16;
 
-// The width at which a number may have reached Q.
+// The width at which bytes may hold numbers of Q or more.
 const REDUCED_WIDTH: usize = 12;
 
 /// ByteEncode (FIPS 203, algorithm 5): packs 256 numbers, each below 2^d and below Q, into 32·d bytes.
 ///
-/// The width `d` is at least 1, 2^d is at most Q (2^12 at most 2·Q), and lcm(d, 8) is at most 128.
+/// The width `d` is at least 1, with lcm(d, 8) at most 128 and 2^d at most Q; a `d` of 12 needs 2^12
+/// at most 2·Q alone.
 pub fn byte_encode<F: Field>(d: usize, values: &[u32], out: &mut [u8])
     requires positive { 1 ≤ d }
     requires unit { lcm d 8 ≤ 128 }
@@ -47,9 +48,10 @@ pub fn byte_encode<F: Field>(d: usize, values: &[u32], out: &mut [u8])
 }
 
 /// ByteDecode (FIPS 203, algorithm 6): takes 256 numbers below Q out of 32·d bytes. At a `d` of 12 the
-/// bytes may hold numbers of Q or more, and Q is subtracted from these.
+/// bytes may hold numbers of Q or more, and Q is subtracted from each of these.
 ///
-/// The width `d` is at least 1, 2^d is at most Q (2^12 at most 2·Q), and lcm(d, 8) is at most 128.
+/// The width `d` is at least 1, with lcm(d, 8) at most 128 and 2^d at most Q; a `d` of 12 needs 2^12
+/// at most 2·Q alone.
 pub fn byte_decode<F: Field>(d: usize, bytes: &[u8], out: &mut [u32])
     requires positive { 1 ≤ d }
     requires unit { lcm d 8 ≤ 128 }
@@ -57,6 +59,7 @@ pub fn byte_decode<F: Field>(d: usize, bytes: &[u8], out: &mut [u32])
     requires bytes { length bytes.now ≡ 32 * d }
     requires room { length out.old ≡ 256 }
     ensures value { out.new ≡ decoded F.Q d bytes.now }
+    ensures in_width { All (λ x. x < 2 ^ d) out.new }
     ensures in_field { All (λ x. x < F.Q) out.new }
 {
     unpack(d, bytes, out);

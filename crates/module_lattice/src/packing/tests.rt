@@ -10,92 +10,6 @@ use std::process::Abort;
 // The bytes of the widest groups that are packed here.
 const MAX_LEN: usize = 640;
 
-// Copies of a pattern, the last one maybe cut.
-fn repeated<const N: usize>(pattern: &[u8]) -> [u8; N]
-    requires { 0 < length pattern.now }
-{
-    let mut bytes = [0; N];
-    for k in 0..N {
-        bytes[k] = pattern[k % pattern.len()];
-    }
-    bytes
-}
-
-fn assert_packs<F: Field>(rt: &impl Abort, d: usize, values: &[u32; VALUE_COUNT], bytes: &[u8])
-    requires positive { 1 ≤ d }
-    requires narrow { d ≤ 20 }
-    requires unit { lcm d 8 ≤ 128 }
-    requires width { (2 ^ d ≤ F.Q) ⊎ ((d ≡ 12) × (4096 ≤ 2 * F.Q)) }
-{
-    assert_eq!(rt; bytes.len(), 32 * d, "at {d} bits");
-    let limit = 1 << d;
-    assert!(rt; values.iter().all(|x| *x < limit), "at {d} bits");
-    assert!(rt; values.iter().all(|x| *x < F::Q), "at {d} bits");
-    let mut packed = [0; MAX_LEN];
-    byte_encode::<F>(d, values, &mut packed[..32 * d]);
-    assert_eq!(rt; &packed[..32 * d], bytes, "at {d} bits");
-}
-
-fn assert_unpacks<F: Field>(rt: &impl Abort, d: usize, bytes: &[u8], values: &[u32; VALUE_COUNT])
-    requires positive { 1 ≤ d }
-    requires narrow { d ≤ 20 }
-    requires unit { lcm d 8 ≤ 128 }
-    requires width { (2 ^ d ≤ F.Q) ⊎ ((d ≡ 12) × (4096 ≤ 2 * F.Q)) }
-{
-    assert_eq!(rt; bytes.len(), 32 * d, "at {d} bits");
-    let mut unpacked = [0; VALUE_COUNT];
-    byte_decode::<F>(d, bytes, &mut unpacked);
-    assert_eq!(rt; unpacked.as_slice(), values.as_slice(), "at {d} bits");
-}
-
-#[test]
-fn packs_from_the_lowest_bit(rt: HostRuntime) {
-    let mut values = [0; VALUE_COUNT];
-    for i in 0..VALUE_COUNT {
-        values[i] = i as u32 % 16;
-    }
-    let bytes = repeated::<128>(b"\x10\x32\x54\x76\x98\xba\xdc\xfe");
-    assert_packs::<BaseField>(&rt, 4, &values, &bytes);
-    let bytes = repeated::<384>(b"\x00\x0d\xd0");
-    assert_packs::<BaseField>(&rt, 12, &[3328; VALUE_COUNT], &bytes);
-}
-
-#[test]
-fn reduces_once_at_12_bits(rt: HostRuntime) {
-    let ones = [0xff; 384];
-    assert_unpacks::<BaseField>(&rt, 12, &ones, &[766; VALUE_COUNT]);
-    assert_unpacks::<Field8380417>(&rt, 12, &ones, &[4095; VALUE_COUNT]);
-}
-
-#[test]
-fn packs_wide_numbers(rt: HostRuntime) {
-    let ones = [0xff; 640];
-    assert_packs::<Field8380417>(&rt, 20, &[1048575; VALUE_COUNT], &ones);
-    assert_unpacks::<Field8380417>(&rt, 20, &ones, &[1048575; VALUE_COUNT]);
-}
-
-#[test]
-fn agrees_with_an_independent_model(rt: HostRuntime) {
-    assert_packs::<BaseField>(&rt, 1, &PACKED_1, BYTES_1);
-    assert_unpacks::<BaseField>(&rt, 1, BYTES_1, &PACKED_1);
-    assert_unpacks::<BaseField>(&rt, 1, FROM_1, &UNPACKED_1);
-    assert_packs::<BaseField>(&rt, 4, &PACKED_4, BYTES_4);
-    assert_unpacks::<BaseField>(&rt, 4, BYTES_4, &PACKED_4);
-    assert_unpacks::<BaseField>(&rt, 4, FROM_4, &UNPACKED_4);
-    assert_packs::<BaseField>(&rt, 5, &PACKED_5, BYTES_5);
-    assert_unpacks::<BaseField>(&rt, 5, BYTES_5, &PACKED_5);
-    assert_unpacks::<BaseField>(&rt, 5, FROM_5, &UNPACKED_5);
-    assert_packs::<BaseField>(&rt, 10, &PACKED_10, BYTES_10);
-    assert_unpacks::<BaseField>(&rt, 10, BYTES_10, &PACKED_10);
-    assert_unpacks::<BaseField>(&rt, 10, FROM_10, &UNPACKED_10);
-    assert_packs::<BaseField>(&rt, 11, &PACKED_11, BYTES_11);
-    assert_unpacks::<BaseField>(&rt, 11, BYTES_11, &PACKED_11);
-    assert_unpacks::<BaseField>(&rt, 11, FROM_11, &UNPACKED_11);
-    assert_packs::<BaseField>(&rt, 12, &PACKED_12, BYTES_12);
-    assert_unpacks::<BaseField>(&rt, 12, BYTES_12, &PACKED_12);
-    assert_unpacks::<BaseField>(&rt, 12, FROM_12, &UNPACKED_12);
-}
-
 // Answers of an independent model over the field of ML-KEM: numbers of some width and their bytes, and
 // bytes and the numbers that they give.
 const PACKED_1: [u32; VALUE_COUNT] = [
@@ -316,3 +230,89 @@ const UNPACKED_12: [u32; VALUE_COUNT] = [
 
 const FROM_12: &[u8] =
     b"\x8e\xcf\x36\x69\x94\xb8\x21\xc2\x58\x14\x49\x79\x1a\x5e\xbc\x8b\x22\x75\xfd\xde\x22\xf1\x40\xba\xa7\x34\x59\xa0\x60\x02\xb3\xb7\xa2\xfd\x07\x69\x57\x03\xf4\xc7\x7f\x9a\x11\x97\xed\xeb\xbf\x58\xc3\xe6\x4e\xdd\x77\x14\x3a\xe2\xc6\x8f\x8d\xcc\x50\xc1\x79\x75\x7e\x9d\x99\xb8\x96\x09\xcb\x9e\xd5\x6c\x52\x85\x83\x85\xeb\x60\x19\xd7\x13\xb9\x53\x9a\x62\xc2\x03\x0b\x36\xf8\xd3\x24\xad\x15\xf2\x40\xb8\xd4\x01\x54\xed\x50\xb3\xc1\xe1\x30\x78\x78\x11\x23\x8f\x23\xb9\x3a\x53\x18\x5e\x58\x78\x78\x83\xb6\xaf\xf9\xea\x7c\x66\xc6\x9d\xce\x6f\x4e\x96\x7d\xfb\xc8\x52\x0a\x22\xb6\xcb\x99\x11\xf8\x83\xbc\x88\xee\x86\xa9\x94\x90\x8c\x28\x2c\x75\xa9\x20\x92\xc5\x60\x0a\xff\xa3\x59\x8e\x28\x2a\x84\xfe\xa4\xe1\x99\xc3\x45\xc2\x10\x89\x18\x5d\x3d\xf5\x3a\xa2\x1f\x49\xef\x6c\xc3\x49\x31\x8f\xab\xe2\xbc\x44\x6c\xd5\x04\xd7\xa5\x56\xca\xae\x7d\x10\x1b\xe7\xf3\x0c\xd6\xdd\xf3\xd7\xc5\x46\x90\xac\xdc\xb5\xe3\xee\x6f\x0b\x2b\xe7\x35\xda\xe1\x8a\x83\x50\x73\x19\xe4\xac\x09\x08\x3e\x37\x1d\x95\xcb\xef\x48\xa8\x4f\x76\x15\x60\x8a\x9a\xea\x2d\x08\xf5\xa1\x51\x61\x2e\x79\x68\x4b\x64\xc9\xbe\xfd\xe8\x67\xda\x33\x6e\x38\x3f\x4b\xff\xeb\xbb\xda\xaa\xaf\xec\xde\x67\x31\x33\x9b\x76\x9a\xad\xa7\x2b\x1c\x81\xec\x2c\x2b\xd4\x37\x9d\x19\xa3\x63\xc5\xdf\xe2\x67\xb6\x55\xf9\xf4\x29\x58\xca\xc0\xae\x72\xc1\x77\x63\x7a\x30\x38\x88\x8c\x95\xeb\xa6\x1f\x1d\x48\xa1\x64\x73\xe8\x2d\xe0\xef\xe2\x59\x08\x0f\xf1\xf1\xc4\xc6\xb4\xe9\x70\x7d\xee\xf2\xea\xea\x9f\x1e\xc5\x0f\xd6\x4e\x09\x2a\x60\x7b\x69\xcb\x95\x46\xfa\x91\x85\xd7\x66\x4f\x49\xff\x6b\xbf\x74\xc7\x49\xaf";
+
+// Copies of a pattern, the last one maybe cut.
+fn repeated<const N: usize>(pattern: &[u8]) -> [u8; N]
+    requires { 0 < length pattern.now }
+{
+    let mut bytes = [0; N];
+    for k in 0..N {
+        bytes[k] = pattern[k % pattern.len()];
+    }
+    bytes
+}
+
+fn assert_packs<F: Field>(rt: &impl Abort, d: usize, values: &[u32; VALUE_COUNT], bytes: &[u8])
+    requires positive { 1 ≤ d }
+    requires narrow { d ≤ 20 }
+    requires unit { lcm d 8 ≤ 128 }
+    requires width { (2 ^ d ≤ F.Q) ⊎ ((d ≡ 12) × (4096 ≤ 2 * F.Q)) }
+{
+    assert_eq!(rt; bytes.len(), 32 * d, "at {d} bits");
+    let limit = 1 << d;
+    assert!(rt; values.iter().all(|x| *x < limit), "at {d} bits");
+    assert!(rt; values.iter().all(|x| *x < F::Q), "at {d} bits");
+    let mut packed = [0; MAX_LEN];
+    byte_encode::<F>(d, values, &mut packed[..32 * d]);
+    assert_eq!(rt; &packed[..32 * d], bytes, "at {d} bits");
+}
+
+fn assert_unpacks<F: Field>(rt: &impl Abort, d: usize, bytes: &[u8], values: &[u32; VALUE_COUNT])
+    requires positive { 1 ≤ d }
+    requires narrow { d ≤ 20 }
+    requires unit { lcm d 8 ≤ 128 }
+    requires width { (2 ^ d ≤ F.Q) ⊎ ((d ≡ 12) × (4096 ≤ 2 * F.Q)) }
+{
+    assert_eq!(rt; bytes.len(), 32 * d, "at {d} bits");
+    let mut unpacked = [0; VALUE_COUNT];
+    byte_decode::<F>(d, bytes, &mut unpacked);
+    assert_eq!(rt; unpacked.as_slice(), values.as_slice(), "at {d} bits");
+}
+
+#[test]
+fn packs_from_the_lowest_bit(rt: HostRuntime) {
+    let mut values = [0; VALUE_COUNT];
+    for i in 0..VALUE_COUNT {
+        values[i] = i as u32 % 16;
+    }
+    let bytes = repeated::<128>(b"\x10\x32\x54\x76\x98\xba\xdc\xfe");
+    assert_packs::<BaseField>(&rt, 4, &values, &bytes);
+    let bytes = repeated::<384>(b"\x00\x0d\xd0");
+    assert_packs::<BaseField>(&rt, 12, &[3328; VALUE_COUNT], &bytes);
+}
+
+#[test]
+fn reduces_once_at_12_bits(rt: HostRuntime) {
+    let ones = [0xff; 384];
+    assert_unpacks::<BaseField>(&rt, 12, &ones, &[766; VALUE_COUNT]);
+    assert_unpacks::<Field8380417>(&rt, 12, &ones, &[4095; VALUE_COUNT]);
+}
+
+#[test]
+fn packs_wide_numbers(rt: HostRuntime) {
+    let ones = [0xff; 640];
+    assert_packs::<Field8380417>(&rt, 20, &[1048575; VALUE_COUNT], &ones);
+    assert_unpacks::<Field8380417>(&rt, 20, &ones, &[1048575; VALUE_COUNT]);
+}
+
+#[test]
+fn agrees_with_an_independent_model(rt: HostRuntime) {
+    assert_packs::<BaseField>(&rt, 1, &PACKED_1, BYTES_1);
+    assert_unpacks::<BaseField>(&rt, 1, BYTES_1, &PACKED_1);
+    assert_unpacks::<BaseField>(&rt, 1, FROM_1, &UNPACKED_1);
+    assert_packs::<BaseField>(&rt, 4, &PACKED_4, BYTES_4);
+    assert_unpacks::<BaseField>(&rt, 4, BYTES_4, &PACKED_4);
+    assert_unpacks::<BaseField>(&rt, 4, FROM_4, &UNPACKED_4);
+    assert_packs::<BaseField>(&rt, 5, &PACKED_5, BYTES_5);
+    assert_unpacks::<BaseField>(&rt, 5, BYTES_5, &PACKED_5);
+    assert_unpacks::<BaseField>(&rt, 5, FROM_5, &UNPACKED_5);
+    assert_packs::<BaseField>(&rt, 10, &PACKED_10, BYTES_10);
+    assert_unpacks::<BaseField>(&rt, 10, BYTES_10, &PACKED_10);
+    assert_unpacks::<BaseField>(&rt, 10, FROM_10, &UNPACKED_10);
+    assert_packs::<BaseField>(&rt, 11, &PACKED_11, BYTES_11);
+    assert_unpacks::<BaseField>(&rt, 11, BYTES_11, &PACKED_11);
+    assert_unpacks::<BaseField>(&rt, 11, FROM_11, &UNPACKED_11);
+    assert_packs::<BaseField>(&rt, 12, &PACKED_12, BYTES_12);
+    assert_unpacks::<BaseField>(&rt, 12, BYTES_12, &PACKED_12);
+    assert_unpacks::<BaseField>(&rt, 12, FROM_12, &UNPACKED_12);
+}

@@ -1,6 +1,6 @@
 use Rattle.std.proofs.Common.{ℕ, ◌*◌, ◌%◌, ◌^◌, ap, ◌∙◌, refl, bit_or}
 use Rattle.module_lattice.specs.Bits.{bits_of_each, number_of}
-use Rattle.module_lattice.proofs.Units.{number_of-or}
+use Rattle.module_lattice.proofs.Words.{number_of-or}
 use Rattle.module_lattice.proofs.packing.join_values.Goals as goal
 
 pub loop-j-init : goal.loop-j-init

@@ -1,6 +1,6 @@
 use Rattle.std.proofs.Common.{List, ℕ, ap, ◌∙◌, length, take}
 use Rattle.std.specs.Int.{to_le_bytes, w128}
-use Rattle.module_lattice.proofs.Units.{groups-word}
+use Rattle.module_lattice.proofs.Words.{groups-word}
 use Rattle.module_lattice.proofs.packing.pack_unit.Goals as goal
 
 pub returns : goal.returns

@@ -2,7 +2,7 @@ use Rattle.std.proofs.Common.{◌≡◌, List, ℕ, ◌*◌, ◌/◌, ◌%◌, �
 use Rattle.std.specs.List.{range_with_len}
 use Rattle.std.proofs.lemmas.List.Elements.{All-from_get_or}
 use Rattle.module_lattice.specs.Bits.{bits_of_each, number_of}
-use Rattle.module_lattice.proofs.Units.{from_le_bytes-filled, ungroup-word}
+use Rattle.module_lattice.proofs.Words.{from_le_bytes-filled, ungroup-word}
 use Rattle.module_lattice.proofs.packing.unpack_unit.Goals as goal
 
 pub returns : goal.returns

@@ -1,6 +1,7 @@
-use Rattle.std.proofs.Common.{rules, ◌≡◌, ℕ, List, ◌+◌, ◌-◌, ◌*◌, ◌++◌, ◌∷◌, [], take, drop, ap, ◌∙◌, arith}
+use Rattle.std.proofs.Common.{rules, ◌≡◌, ℕ, List, ◌+◌, ◌-◌, ◌*◌, ◌^◌, ◌<◌, All, ◌++◌, ◌∷◌, [], take, drop, ap, ◌∙◌, arith}
+use Rattle.std.proofs.lemmas.List.Elements.{All-same}
 use Rattle.module_lattice.specs.Groups.{decoded}
-use Rattle.module_lattice.proofs.Encoding.{decoded_more, decoded_done}
+use Rattle.module_lattice.proofs.Encoding.{All-decoded_each, decoded_more, decoded_done}
 use Rattle.module_lattice.proofs.encode.NttVectorEncode.decode.Goals as goal
 
 pub loop-i-preserved : goal.loop-i-preserved
@@ -17,3 +18,7 @@ loop-i-preserved g c =
 pub returns-clause-value : goal.returns-clause-value
 returns-clause-value g c =
     c.new-2.ensures ∙ decoded_done g.F.Field.Q c.args.d c.args.count c.args.bytes.now c.loop-i.i c.loop-i.items.items (search rules) c.loop-i.invariant
+
+pub returns-clause-in_width : goal.returns-clause-in_width
+returns-clause-in_width g c =
+    All-same (λ f. All (λ x. x < 2 ^ c.args.d) f) _ _ (returns-clause-value g c) (All-decoded_each g.F.Field.Q c.args.d c.args.count c.args.bytes.now)
