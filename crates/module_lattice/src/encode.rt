@@ -50,6 +50,7 @@ pub trait Encode: Sized + Drop {
         requires count { has_count count }
         requires bytes { length bytes.now ≡ 32 * d * count }
         ensures value { IfOk result (λ value. polynomials value ≡ decoded_each Q d count bytes.now) }
+        ensures count { IfOk result (λ value. length (polynomials value) ≡ count) }
         ensures in_width { IfOk result (λ value. All (λ f. All (λ x. x < 2 ^ d) f) (polynomials value)) }
         ensures memory { IsErr result → takes_memory };
 }

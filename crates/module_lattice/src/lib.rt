@@ -26,3 +26,4 @@ pub use ntt_vector::NttVector;
 pub use packing::{byte_decode, byte_encode};
 pub use polynomial::Polynomial;
 pub use vector::Vector;
+

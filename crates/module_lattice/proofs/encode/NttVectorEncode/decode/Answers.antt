@@ -1,7 +1,7 @@
-use Rattle.std.proofs.Common.{rules, ◌≡◌, ℕ, List, ◌+◌, ◌-◌, ◌*◌, ◌^◌, ◌<◌, All, ◌++◌, ◌∷◌, [], take, drop, ap, ◌∙◌, arith}
+use Rattle.std.proofs.Common.{length, rules, ◌≡◌, ℕ, List, ◌+◌, ◌-◌, ◌*◌, ◌^◌, ◌<◌, All, ◌++◌, ◌∷◌, [], take, drop, ap, ◌∙◌, arith}
 use Rattle.std.proofs.lemmas.List.Elements.{All-same}
 use Rattle.module_lattice.specs.Groups.{decoded}
-use Rattle.module_lattice.proofs.Encoding.{All-decoded_each, decoded_more, decoded_done}
+use Rattle.module_lattice.proofs.Encoding.{All-decoded_each, decoded_more, decoded_done, length-decoded_each}
 use Rattle.module_lattice.proofs.encode.NttVectorEncode.decode.Goals as goal
 
 pub loop-i-preserved : goal.loop-i-preserved
@@ -18,6 +18,9 @@ loop-i-preserved g c =
 pub returns-clause-value : goal.returns-clause-value
 returns-clause-value g c =
     c.new-2.ensures ∙ decoded_done g.F.Field.Q c.args.d c.args.count c.args.bytes.now c.loop-i.i c.loop-i.items.items (search rules) c.loop-i.invariant
+
+pub returns-clause-count : goal.returns-clause-count
+returns-clause-count g c = ap length (returns-clause-value g c) ∙ length-decoded_each g.F.Field.Q c.args.d c.args.count c.args.bytes.now
 
 pub returns-clause-in_width : goal.returns-clause-in_width
 returns-clause-in_width g c =
