@@ -1,6 +1,8 @@
 mod Encoding
 mod Modular
 mod Places
+mod Powers
+mod Products
 mod Totals
 mod Vectors
 pub mod BitLists

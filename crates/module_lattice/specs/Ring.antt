@@ -1,6 +1,7 @@
 -- Polynomials over the integers modulo q as lists of their coefficients, that of X^0 first
 -- (FIPS 203, sections 2.3 and 2.4).
-use Rattle.std.specs.Prelude.{◌≡◌, ℕ, ◌+◌, ◌-◌, ◌*◌, ◌%◌, ◌<◌, List, length, map, All}
+use Rattle.std.specs.Prelude.{◌≡◌, ℕ, ◌+◌, ◌-◌, ◌*◌, ◌%◌, ◌<◌, List, length, map, All, sum_by, slice_index, slice_set, ◌==◌, if◌then◌else◌}
+use Rattle.std.specs.List.{range_with_len}
 use Rattle.std.specs.Simd.Lanes.{zip2}
 
 -- a polynomial: 256 numbers below q
@@ -39,3 +40,27 @@ negation q f = map (negated q) f
 -- a·f, for a number a
 abbrev pub multiple : ℕ → ℕ → List ℕ → List ℕ
 multiple q a f = map (times q a) f
+
+-- coefficient k of f·g modulo X^256 + 1 and q: each product of coefficients i and j is added at
+-- i + j, and subtracted at i + j - 256 where that is past 255 (section 2.4)
+abbrev pub product_coefficient : ℕ → List ℕ → List ℕ → ℕ → ℕ
+product_coefficient q f g k =
+    let below = sum_by (λ i. slice_index f i * slice_index g (k - i)) (range_with_len 0 (k + 1)) in
+    let wrapped = sum_by (λ i. slice_index f i * slice_index g (256 + k - i)) (range_with_len (k + 1) (255 - k)) in
+    minus q (below % q) (wrapped % q)
+
+-- f·g modulo X^256 + 1 and q (section 2.4)
+unfoldable pub product : ℕ → List ℕ → List ℕ → List ℕ
+product q f g = map (product_coefficient q f g) (range_with_len 0 256)
+
+-- X^k, for k below 256
+abbrev pub power_of_x : ℕ → List ℕ
+power_of_x k = map (λ i. if i == k then 1 else 0) (range_with_len 0 256)
+
+-- the butterfly at i and j with zeta (section 4.3): with a and b the numbers there, a + zeta·b
+-- at i and a - zeta·b at j, modulo q
+abbrev pub butterfly : ℕ → ℕ → ℕ → ℕ → List ℕ → List ℕ
+butterfly q i j zeta f =
+    let a = slice_index f i in
+    let turned = times q zeta (slice_index f j) in
+    slice_set (slice_set f i (plus q a turned)) j (minus q a turned)

@@ -3,9 +3,10 @@
 ghost use Rattle.std.specs.Prelude.{◌≡◌, ◌*◌, ◌+◌, ◌-◌, ◌%◌, ◌^◌, ◌<◌, ◌≤◌, ℕ, nat_lt, if◌then◌else◌};
 
 use ctutils::{CtLt, CtSelect};
+use std::fmt::Debug;
 
 /// The integers modulo Q, for a Q that is at least 2 and below 2^31.
-pub trait Field: Copy + Default + PartialEq + Sized {
+pub trait Field: Copy + Debug + Default + PartialEq + Sized {
     /// The modulus.
     const Q: u32;
 

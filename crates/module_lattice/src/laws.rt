@@ -1,11 +1,11 @@
 //! What holds of elements, of equality at each type, and of packed numbers.
 
-ghost use Rattle.std.specs.Prelude.{◌≡◌, ◌+◌, ◌*◌, ◌/◌, ◌%◌, ◌^◌, ◌<◌, ◌≤◌, ℕ, All, List, length, slice_index};
+ghost use Rattle.std.specs.Prelude.{◌≡◌, ◌+◌, ◌-◌, ◌*◌, ◌/◌, ◌%◌, ◌^◌, ◌<◌, ◌≤◌, ◌++◌, ℕ, All, List, length, map, take, drop, slice_index};
 ghost use Rattle.std.specs.Int.{bit_at};
 ghost use Rattle.std.specs.List.{flat_map};
 ghost use Rattle.module_lattice.specs.Bits.{byte_bit};
 ghost use Rattle.module_lattice.specs.Groups.{decode12, decoded_each, groups, ungroup};
-ghost use Rattle.module_lattice.specs.Ring.{IsPolynomial, plus, minus, negated, times};
+ghost use Rattle.module_lattice.specs.Ring.{IsPolynomial, plus, minus, negated, times, power_of_x, product};
 
 use crate::elem::Elem;
 use crate::field::Field;
@@ -37,6 +37,13 @@ pub fn elements_have_zero_and_one<F: Field>(a: Elem<F>, b: Elem<F>)
     let _ = a.get();
     let _ = b.get();
 }
+
+/// A product by X^k, for a k below 256, turns the coefficients by k places, and those that pass the
+/// end change their sign, since X^256 is -1 (FIPS 203, section 2.4).
+pub fn powers_of_x()
+    ensures { (q k : ℕ) (f : List ℕ) → IsPolynomial q f → k < 256
+        → product q f (power_of_x k) ≡ map (negated q) (drop (256 - k) f) ++ take (256 - k) f }
+{}
 
 /// `==` and `ct_eq` agree at each type.
 pub fn ct_eq_agrees<F: Field>()

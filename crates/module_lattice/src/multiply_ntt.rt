@@ -1,22 +1,62 @@
-//! Multiplication in the transform domain.
+//! Products in the transform domain.
 
-ghost use Rattle.std.specs.Prelude.{◌≡◌, ℕ, List};
+ghost use Rattle.std.specs.Prelude.{◌≡◌, ◌<◌, ℕ, List, All};
 ghost use Rattle.module_lattice.specs.Ring.{IsPolynomial};
+ghost use Rattle.module_lattice.specs.Pairs.{gamma, pair_product};
 
-use crate::field::Field;
+use crate::coefficients::DEGREE;
+use crate::elem::Elem;
+use crate::field::{BaseField, Field};
 use crate::ntt_polynomial::NttPolynomial;
 use std::ops::Mul;
 
-/// Multiplication in the transform domain.
+const PAIRS: usize = DEGREE / 2;
+
+// g(i) = 17^(2·BitRev7(i) + 1) modulo 3329, at place i.
+const GAMMAS: [u32; PAIRS] = [
+    17, 3312, 2761, 568, 583, 2746, 2649, 680, 1637, 1692, 723, 2606, 2288, 1041, 1100, 2229, 1409,
+    1920, 2662, 667, 3281, 48, 233, 3096, 756, 2573, 2156, 1173, 3015, 314, 3050, 279, 1703, 1626,
+    1651, 1678, 2789, 540, 1789, 1540, 1847, 1482, 952, 2377, 1461, 1868, 2687, 642, 939, 2390,
+    2308, 1021, 2437, 892, 2388, 941, 733, 2596, 2337, 992, 268, 3061, 641, 2688, 1584, 1745, 2298,
+    1031, 2037, 1292, 3220, 109, 375, 2954, 2549, 780, 2090, 1239, 1645, 1684, 1063, 2266, 319,
+    3010, 2773, 556, 757, 2572, 2099, 1230, 561, 2768, 2466, 863, 2594, 735, 2804, 525, 1092, 2237,
+    403, 2926, 1026, 2303, 1143, 2186, 2150, 1179, 2775, 554, 886, 2443, 1722, 1607, 1212, 2117,
+    1874, 1455, 1029, 2300, 2110, 1219, 2935, 394, 885, 2444, 2154, 1175,
+];
+
+/// Fields with a multiplication in the transform domain.
 pub trait MultiplyNtt: Field {
     // The product of two lists of 256 numbers below Q.
     ghost product_of: { List ℕ → List ℕ → List ℕ };
 
-    /// The product.
+    /// The product of two polynomials.
     fn multiply_ntt(lhs: &NttPolynomial<Self>, rhs: &NttPolynomial<Self>) -> NttPolynomial<Self>
         ensures { result ≡ product_of lhs.now rhs.now };
 
     ghost product_is: { (f g : List ℕ) → IsPolynomial Self.Q f → IsPolynomial Self.Q g → IsPolynomial Self.Q (product_of f g) };
+}
+
+impl MultiplyNtt for BaseField {
+    ghost use Rattle.module_lattice.specs.Pairs.{pair_products};
+
+    ghost product_of = { pair_products };
+
+    ghost use Rattle.module_lattice.specs.PairLaws.{IsPolynomial-pair_products};
+
+    ghost product_is = { IsPolynomial-pair_products };
+
+    fn multiply_ntt(
+        lhs: &NttPolynomial<BaseField>,
+        rhs: &NttPolynomial<BaseField>,
+    ) -> NttPolynomial<BaseField> {
+        let mut out = [0; DEGREE];
+        for i in 0..PAIRS {
+            let pair = pair_product(lhs, rhs, i);
+            out[2 * i] = pair[0];
+            out[2 * i + 1] = pair[1];
+        }
+        NttPolynomial::new(out)
+    }
 }
 
 impl<F: MultiplyNtt> Mul<&NttPolynomial<F>> for &NttPolynomial<F> {
@@ -27,4 +67,29 @@ impl<F: MultiplyNtt> Mul<&NttPolynomial<F>> for &NttPolynomial<F> {
     fn mul(self, rhs: &NttPolynomial<F>) -> NttPolynomial<F> {
         F::multiply_ntt(self, rhs)
     }
+}
+
+// The two numbers of pair `i` of the product.
+fn pair_product(
+    lhs: &NttPolynomial<BaseField>,
+    rhs: &NttPolynomial<BaseField>,
+    i: usize,
+) -> [u32; 2]
+    requires { i < 128 }
+    ensures value { result ≡ pair_product lhs.now rhs.now i }
+    ensures within { All (λ x. x < 3329) result }
+{
+    let (a0, a1) = (lhs.coefficient(2 * i), lhs.coefficient(2 * i + 1));
+    let (b0, b1) = (rhs.coefficient(2 * i), rhs.coefficient(2 * i + 1));
+    let constant = a0 * b0 + a1 * b1 * gamma(i);
+    let linear = a0 * b1 + a1 * b0;
+    [constant.get(), linear.get()]
+}
+
+// g(i): the product of pair `i` is modulo X^2 - g(i).
+fn gamma(i: usize) -> Elem<BaseField>
+    requires { i < 128 }
+    ensures { result ≡ gamma i }
+{
+    Elem::new(GAMMAS[i])
 }

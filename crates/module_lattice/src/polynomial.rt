@@ -1,6 +1,6 @@
 //! Polynomials by their coefficients.
 
-ghost use Rattle.std.specs.Prelude.{◌≡◌, ◌<◌, All, slice_index, replicate};
+ghost use Rattle.std.specs.Prelude.{◌≡◌, ◌<◌, All, slice_index, slice_set, replicate};
 ghost use Rattle.module_lattice.specs.Ring.{IsPolynomial, sum, difference, negation, multiple};
 
 use crate::coefficients::{self, DEGREE};
@@ -57,6 +57,15 @@ impl<F: Field> Polynomial<F> {
         ensures polynomial { IsPolynomial F.Q result }
     {
         self.values
+    }
+
+    /// Makes `x` the coefficient of X^i, for an `i` below 256.
+    pub(crate) fn set(&mut self, i: usize, x: Elem<F>)
+        requires { i < 256 }
+        ensures value { self.new ≡ slice_set self.old i x }
+        ensures polynomial { IsPolynomial F.Q self.new }
+    {
+        self.values[i] = x.get();
     }
 
     /// The coefficients.
