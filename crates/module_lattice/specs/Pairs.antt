@@ -4,7 +4,7 @@ use Rattle.std.specs.Prelude.{ℕ, ◌+◌, ◌*◌, ◌-◌, ◌^◌, ◌%◌, 
 use Rattle.std.specs.List.{flat_map, range_with_len}
 use Rattle.std.specs.Int.{bit_at}
 
--- BitRev7(i): the seven bits of i in reverse order (section 4.3)
+-- BitRev7(i): the seven bits of i in reverse order (section 2.3)
 abbrev pub bit_rev7 : ℕ → ℕ
 bit_rev7 i = sum_by (λ k. bit_at i k * 2 ^ (6 - k)) (range_with_len 0 7)
 

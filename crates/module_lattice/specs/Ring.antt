@@ -42,14 +42,14 @@ abbrev pub multiple : ℕ → ℕ → List ℕ → List ℕ
 multiple q a f = map (times q a) f
 
 -- coefficient k of f·g modulo X^256 + 1 and q: each product of coefficients i and j is added at
--- i + j, and subtracted at i + j - 256 where that is past 255 (section 2.4)
+-- i + j, and subtracted at i + j - 256 where i + j is past 255, since X^256 is -1 (section 2.3)
 abbrev pub product_coefficient : ℕ → List ℕ → List ℕ → ℕ → ℕ
 product_coefficient q f g k =
     let below = sum_by (λ i. slice_index f i * slice_index g (k - i)) (range_with_len 0 (k + 1)) in
     let wrapped = sum_by (λ i. slice_index f i * slice_index g (256 + k - i)) (range_with_len (k + 1) (255 - k)) in
     minus q (below % q) (wrapped % q)
 
--- f·g modulo X^256 + 1 and q (section 2.4)
+-- f·g modulo X^256 + 1 and q (section 2.3)
 unfoldable pub product : ℕ → List ℕ → List ℕ → List ℕ
 product q f g = map (product_coefficient q f g) (range_with_len 0 256)
 
@@ -57,8 +57,8 @@ product q f g = map (product_coefficient q f g) (range_with_len 0 256)
 abbrev pub power_of_x : ℕ → List ℕ
 power_of_x k = map (λ i. if i == k then 1 else 0) (range_with_len 0 256)
 
--- the butterfly at i and j with zeta (section 4.3): with a and b the numbers there, a + zeta·b
--- at i and a - zeta·b at j, modulo q
+-- a butterfly at i and j with zeta: with a and b the numbers there, a + zeta·b at i and a - zeta·b
+-- at j, modulo q (section 4.3, algorithm 9)
 abbrev pub butterfly : ℕ → ℕ → ℕ → ℕ → List ℕ → List ℕ
 butterfly q i j zeta f =
     let a = slice_index f i in

@@ -9,13 +9,13 @@ use crate::polynomial::Polynomial;
 use crate::steps::Steps;
 use std::sync::ledger::Ledger;
 
-/// 256 numbers below Q, in the hands of code that may only count and take butterflies.
+/// 256 numbers below Q that generic code can read and change by butterflies alone.
 pub trait Butterflies<F: Field> {
     // The values: a list of 256 numbers below Q.
     ghost values: { Self → List ℕ };
 
-    /// With a and b the values at `i` and `j`, which are below 256 and differ: a + zeta·b goes to
-    /// `i` and a - zeta·b to `j`, both modulo Q (FIPS 203, section 4.3). That is one step.
+    /// One step: with a and b the values at `i` and `j`, which are below 256 and differ, a + zeta·b
+    /// goes to `i` and a - zeta·b to `j`, both modulo Q (FIPS 203, section 4.3, algorithm 9).
     fn butterfly<L: Ledger>(&mut self, i: usize, j: usize, zeta: Elem<F>, steps: &mut Steps<L>)
         requires first { i < 256 }
         requires second { j < 256 }

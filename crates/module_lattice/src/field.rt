@@ -6,7 +6,7 @@ use ctutils::{CtLt, CtSelect};
 use std::fmt::Debug;
 
 /// The integers modulo Q, for a Q that is at least 2 and below 2^31.
-pub trait Field: Copy + Debug + Default + PartialEq + Sized {
+pub trait Field: Copy + Default + Debug + PartialEq + Sized {
     /// The modulus.
     const Q: u32;
 

@@ -39,7 +39,7 @@ pub fn elements_have_zero_and_one<F: Field>(a: Elem<F>, b: Elem<F>)
 }
 
 /// A product by X^k, for a k below 256, turns the coefficients by k places, and those that pass the
-/// end change their sign, since X^256 is -1 (FIPS 203, section 2.4).
+/// end change their sign, since X^256 is -1 (FIPS 203, section 2.3).
 pub fn powers_of_x()
     ensures { (q k : ℕ) (f : List ℕ) → IsPolynomial q f → k < 256
         → product q f (power_of_x k) ≡ map (negated q) (drop (256 - k) f) ++ take (256 - k) f }

@@ -20,7 +20,7 @@ impl<T> Model for MaybeBox<T> {
 }
 
 impl<T> MaybeBox<T> {
-    /// A box of `inner`, or want of memory.
+    /// A box of `inner`, which is dropped where memory is wanting.
     pub fn new(alloc: Global, inner: T) -> Result<MaybeBox<T>, AllocError>
     where
         T: Drop,

@@ -36,6 +36,7 @@ pub trait MultiplyNtt: Field {
     ghost product_is: { (f g : List ℕ) → IsPolynomial Self.Q f → IsPolynomial Self.Q g → IsPolynomial Self.Q (product_of f g) };
 }
 
+/// The products of the 128 pairs (FIPS 203, section 4.3.1).
 impl MultiplyNtt for BaseField {
     ghost use Rattle.module_lattice.specs.Pairs.{pair_products};
 
@@ -69,7 +70,7 @@ impl<F: MultiplyNtt> Mul<&NttPolynomial<F>> for &NttPolynomial<F> {
     }
 }
 
-// The two numbers of pair `i` of the product.
+// The two numbers of pair `i` of the product, for an `i` below 128.
 fn pair_product(
     lhs: &NttPolynomial<BaseField>,
     rhs: &NttPolynomial<BaseField>,
