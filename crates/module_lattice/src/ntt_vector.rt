@@ -100,7 +100,7 @@ impl<F: MultiplyNtt> NttVector<F> {
         ensures { result ≡ dot_product F.Q F.product_of self.now rhs.now }
     {
         let mut sum = NttPolynomial::default();
-        for i in 0..self.items.len() {
+        for i in 0..self.len() {
             sum.add_assign(&(&self.items[i] * &rhs.items[i]));
         }
         sum
