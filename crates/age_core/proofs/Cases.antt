@@ -17,10 +17,6 @@ pub not_nil : {A : Type 0} (xs : List A) → eqb (length xs) 0 ≡ false → xs 
 not_nil [] e h = absurd cc
 not_nil (x ∷ xs) e h = cc
 
-pub push_not_nil : {A : Type 0} (xs : List A) (x : A) → (xs ++ x ∷ []) ≢ []
-push_not_nil [] x h = cc
-push_not_nil (y ∷ xs) x h = cc
-
 pub IsBytes-rest : (b : ℕ) (bytes : List ℕ) → IsBytes (b ∷ bytes) → IsBytes bytes
 IsBytes-rest b bytes h i = h (suc i)
 

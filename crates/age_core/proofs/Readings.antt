@@ -1,5 +1,6 @@
--- No text has two readings.
-use Rattle.std.proofs.Common.{◌≡◌, ◌≢◌, ℕ, List, [], ◌∷◌, ◌++◌, take, refl, sym, ap, subst, ◌∙◌, append_assoc, arith}
+-- A text has one reading.
+use Rattle.std.proofs.Common.{◌≡◌, ◌≢◌, ℕ, zero, suc, ◌<◌, List, [], ◌∷◌, ◌++◌, length, length-append, take, refl, sym, ap, subst, ◌∙◌, append_assoc, arith, inl, inr}
+use Rattle.std.proofs.lemmas.Bool.{cases_lt}
 use Rattle.std.specs.List.{flat_map, AllByRecursion}
 use Rattle.age_core.specs.Stanza.{Stanza, IsStanza, IsFront, spelling}
 use Rattle.age_core.specs.Reading.{IsDone, NoneDone, StandsBeforeDone, HasNoDone, Reading, Before_done, Invalid_data, Unexpected_eof, Too_much, Reads}
@@ -89,3 +90,67 @@ same_reading text budget Too_much (Before_done ts) a b = absurd (done_or_none _ 
 same_reading text budget Too_much Invalid_data a b = absurd (front_or_none _ a.0 b.0 a.1 b.1 a.2 b.2)
 same_reading text budget Too_much Unexpected_eof a b = absurd (let p = a.3 in let q = b.3 in omega arith)
 same_reading text budget Too_much Too_much a b = refl
+
+-- ---- each text has a reading
+
+-- a spelling takes some of a text
+shorter_rest : (s : Stanza) (more text : List ℕ) → text ≡ spelling s ++ more → length more < length text
+shorter_rest s more text is =
+    let marked : 0 < length (spelling s) = omega arith in
+    omega (arith, marked, ap length is ∙ length-append (spelling s) more)
+
+-- one stanza more in front of those before a first `done`
+stands-cons : (text more : List ℕ) (s : Stanza) (stanzas : List Stanza) → text ≡ spelling s ++ more → IsStanza s → (IsDone s → ⊥)
+    → StandsBeforeDone more stanzas → StandsBeforeDone text (s ∷ stanzas)
+stands-cons text more s stanzas is stanza other stands = record {
+  last = stands.last;
+  rest = stands.rest;
+  whole = is ∙ ap (λ (x : List ℕ). spelling s ++ x) stands.whole ∙ sym (append_assoc (spelling s) (flat_map spelling stanzas) (spelling stands.last ++ stands.rest));
+  each = (stanza, stands.each);
+  none_done = (other, stands.none_done);
+  last_is_stanza = stands.last_is_stanza;
+  last_is_done = stands.last_is_done;
+}
+
+-- the same of a text without a `done`
+without-cons : (text more : List ℕ) (s : Stanza) (rest : List ℕ) → text ≡ spelling s ++ more → IsStanza s → (IsDone s → ⊥)
+    → HasNoDone more rest → HasNoDone text rest
+without-cons text more s rest is stanza other without = record {
+  stanzas = s ∷ without.stanzas;
+  splits = record {
+    whole = is ∙ ap (λ (x : List ℕ). spelling s ++ x) without.splits.whole ∙ sym (append_assoc (spelling s) (flat_map spelling without.stanzas) rest);
+    each = (stanza, without.splits.each);
+    longest = without.splits.longest;
+  };
+  none_done = (other, without.none_done);
+}
+
+-- a text has stanzas before a first `done`, or it has no `done`
+some_split : (n : ℕ) (text : List ℕ) → length text < n → ((stanzas : List Stanza) → StandsBeforeDone text stanzas → ⊥)
+    → ((rest : List ℕ) → HasNoDone text rest → ⊥) → ⊥
+some_split zero text small before none = omega (arith, small)
+some_split (suc n) text small before none = none text (record {
+  stanzas = [];
+  splits = record {
+    whole = refl;
+    each = tt;
+    longest = λ s more stanza is.
+        let other : IsDone s → ⊥ = λ done. before [] (record { last = s; rest = more; whole = is; each = tt; none_done = tt; last_is_stanza = stanza; last_is_done = done }) in
+        some_split n more (omega (arith, small, shorter_rest s more text is))
+        (λ stanzas stands. before (s ∷ stanzas) (stands-cons text more s stanzas is stanza other stands))
+        (λ rest without. none rest (without-cons text more s rest is stanza other without));
+  };
+  none_done = tt;
+})
+
+pub some_reading : (text : List ℕ) (budget : ℕ) → ((reading : Reading) → Reads text budget reading → ⊥) → ⊥
+some_reading text budget none = some_split (suc (length (take budget text))) (take budget text) (omega arith)
+    (λ stanzas stands. none (Before_done stanzas) stands)
+    (λ rest without. none Invalid_data (
+      rest,
+      without,
+      λ front. elim (cases_lt (length text) budget) [
+        | inl within ↦ none Unexpected_eof (rest, without, front, within)
+        | inr past ↦ none Too_much (rest, without, front, past)
+      ],
+    ))

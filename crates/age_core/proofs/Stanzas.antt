@@ -92,9 +92,6 @@ stanza_from-none : (words : List (List ℕ)) → stanza_from words None ≡ None
 stanza_from-none [] = refl
 stanza_from-none (tag ∷ args) = refl
 
-stanza_from-nil : (read : Option (List ℕ × List ℕ)) → stanza_from [] read ≡ None
-stanza_from-nil read = refl
-
 -- the first word, and those after it
 pub split_first : {X : Type 0} (f : X → List ℕ) (xs : List X) (x : X) (ys : List X) → 0 < length xs → x ≡ get_or xs 0 x → ys ≡ remove xs 0 → map f xs ≡ f x ∷ map f ys
 split_first f [] x ys lt first others = absurd (omega (arith, lt))

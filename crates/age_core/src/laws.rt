@@ -18,6 +18,12 @@ pub fn one_reading()
         → Reads text budget one → Reads text budget other → one ≡ other }
 {}
 
+/// No text is without a reading.
+pub fn some_reading()
+    ensures { (text : List ℕ) (budget : ℕ)
+        → ((reading : Reading) → Reads text budget reading → ⊥) → ⊥ }
+{}
+
 /// The stanzas before a first `done` are one list, and a text that has them is no text without one.
 pub fn one_first_done()
     ensures one { (text : List ℕ) (stanzas others : List Stanza) → StandsBeforeDone text stanzas

@@ -1,5 +1,5 @@
--- No words and text have two due answers.
-use Rattle.std.proofs.Common.{◌≡◌, ℕ, List, take, Option, Some, sym, ap, subst, ◌∙◌, inl, inr}
+-- Words and a text have one due answer.
+use Rattle.std.proofs.Common.{◌≡◌, ℕ, List, [], ◌∷◌, ◌++◌, take, Option, Some, refl, sym, ap, subst, ◌∙◌, inl, inr}
 use Rattle.std.specs.Prelude.{codes}
 use Rattle.age_core.specs.Stanza.{Stanza}
 use Rattle.age_core.proofs.Readings.{same_stanzas_before}
@@ -37,3 +37,15 @@ same_due words text one other output another (inr (inl d)) (inr (inr e)) = absur
 same_due words text one other output another (inr (inr d)) (inl e) = absurd (d.mail e.messages e.mail)
 same_due words text one other output another (inr (inr d)) (inr (inl e)) = absurd (e.command d.command)
 same_due words text one other output another (inr (inr d)) (inr (inr e)) = (d.status_is ∙ sym e.status_is, d.output_is ∙ sym e.output_is)
+
+pub some_due : (words : List (List ℕ)) (text : List ℕ) → ((status : ℕ) (output : List ℕ) → Due words text status output → ⊥) → ⊥
+some_due words text none = none 2 (codes "! words" ++ 10 ∷ []) (inr (inl (record {
+  command = λ command. none 3 (codes "! NotMail" ++ 10 ∷ []) (inr (inr (record {
+    command = command;
+    mail = λ messages mail. none 0 (lines messages) (inl (record { command = command; messages = messages; mail = mail; status_is = refl; output_is = refl }));
+    status_is = refl;
+    output_is = refl;
+  })));
+  status_is = refl;
+  output_is = refl;
+})))

@@ -1,5 +1,5 @@
 -- What was taken of a text so far.
-use Rattle.std.proofs.Common.{◌≡◌, ℕ, ◌+◌, ◌-◌, ◌≤◌, List, [], ◌++◌, length, take, drop, Option, Some, None, refl, sym, ap, subst, ◌∙◌, arith}
+use Rattle.std.proofs.Common.{◌≡◌, ℕ, ◌+◌, ◌≤◌, List, [], ◌++◌, length, take, drop, Option, Some, None, refl, sym, ap, subst, ◌∙◌, arith}
 use Rattle.std.specs.Prelude.{IfSome}
 use Rattle.std.proofs.lemmas.List.{append-nil, take-append-drop, drop-drop, take_all}
 use Rattle.std.proofs.Math.Seq.{take-add}
@@ -8,10 +8,6 @@ use Rattle.kem_mail.specs.Taking.{TookFront}
 -- a read of n bytes
 abbrev pub ReadMore : List ℕ → Option (List ℕ) → List ℕ → List ℕ → ℕ → Type 0
 ReadMore text now before after n = (after ≡ before ++ take n text) × (n ≤ length text) × (now ≡ Some (drop n text)) × (n ≡ 0 → text ≡ [])
-
-pub took_none : (before : Option (List ℕ)) (budget : ℕ) → IfSome before (λ text. TookFront text before budget [])
-took_none None budget = tt
-took_none (Some text) budget = record { front = refl; rest = refl; within = omega arith }
 
 pub took_more : (before mid now : Option (List ℕ)) (budget : ℕ) (bytes after : List ℕ) (n : ℕ) → IfSome before (λ text. TookFront text mid budget bytes)
     → IfSome mid (λ text. ReadMore text now bytes after n) → length after ≡ length bytes + n → length after ≤ budget → IfSome before (λ text. TookFront text now budget after)
@@ -25,11 +21,6 @@ took_more (Some text) mid now budget bytes after n f r len within =
       within = within;
     }
 
--- the budget was taken
-pub took_budget : (before mid : Option (List ℕ)) (budget : ℕ) (bytes : List ℕ) → IfSome before (λ text. TookFront text mid budget bytes) → budget ≤ length bytes → IfSome before (λ text. bytes ≡ take budget text)
-took_budget None mid budget bytes f le = tt
-took_budget (Some text) mid budget bytes f le = let k : length bytes ≡ budget = let w = f.within in omega arith in f.front ∙ ap (λ (k : ℕ). take k text) k
-
 -- the text has ended
 pub took_all : (before mid now : Option (List ℕ)) (budget : ℕ) (bytes after : List ℕ) → IfSome before (λ text. TookFront text mid budget bytes) → IfSome mid (λ text. ReadMore text now bytes after 0)
     → IfSome before (λ text. after ≡ take budget text)
@@ -40,15 +31,3 @@ took_all (Some text) mid now budget bytes after f r =
     let whole : bytes ≡ text = f.front ∙ (sym (append-nil (take (length bytes) text)) ∙ (ap (λ (t : List ℕ). take (length bytes) text ++ t) (sym none) ∙ take-append-drop (length bytes) text)) in
     let short : length text ≤ budget = let w = f.within in omega (arith, ap length whole) in
     read.0 ∙ (append-nil bytes ∙ (whole ∙ sym (take_all budget text short)))
-
--- what a read that found no memory leaves
-pub took_any : (before mid now : Option (List ℕ)) (budget most : ℕ) (bytes : List ℕ) → IfSome before (λ text. TookFront text mid budget bytes) → IfSome mid (λ text. (n : ℕ) × (n ≤ most) × (now ≡ Some (drop n text)))
-    → most ≤ budget - length bytes → IfSome before (λ text. (n : ℕ) × (n ≤ budget) × (now ≡ Some (drop n text)))
-took_any None mid now budget most bytes f r le = tt
-took_any (Some text) mid now budget most bytes f r le =
-    let read = subst (λ (o : Option (List ℕ)). IfSome o (λ t. (n : ℕ) × (n ≤ most) × (now ≡ Some (drop n t)))) f.rest r in
-    (length bytes + read.0, let w = f.within in let b = read.1 in omega arith, read.2 ∙ ap Some (drop-drop read.0 (length bytes) text))
-
-pub took_held : (before now : Option (List ℕ)) (budget : ℕ) (bytes : List ℕ) → IfSome before (λ text. TookFront text now budget bytes) → IfSome before (λ text. (n : ℕ) × (n ≤ budget) × (now ≡ Some (drop n text)))
-took_held None now budget bytes f = tt
-took_held (Some text) now budget bytes f = (length bytes, f.within, f.rest)

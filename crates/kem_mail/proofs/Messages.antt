@@ -3,7 +3,7 @@ use Rattle.std.proofs.Common.{◌≡◌, ◌≢◌, ℕ, ◌+◌, ◌<◌, ◌�
 use Rattle.std.specs.Prelude.{option_and_then, Result, Ok, Err}
 use Rattle.std.specs.Option.{option_map}
 use Rattle.std.specs.Str.{bytes_eq}
-use Rattle.std.proofs.lemmas.Bool.{cases_lt, eq-eqb, ne_eqb}
+use Rattle.std.proofs.lemmas.Bool.{cases_lt}
 use Rattle.std.proofs.lemmas.List.{drop_more, drop_all, append-nil}
 use Rattle.std.proofs.lemmas.Option.{none-some}
 use Rattle.age_core.specs.Stanza.{stanza_of}
@@ -16,7 +16,7 @@ use Rattle.hpke.specs.declared.error.HpkeError.{HpkeError}
 use Rattle.hpke.specs.declared.error.HpkeError.TheVariants.{NoMemory as HpkeNoMemory, OpenError}
 use Rattle.kem_mail.specs.declared.error.MailError.{MailError}
 use Rattle.kem_mail.specs.declared.error.MailError.TheVariants.{NoMemory, ReadFault, NotMail}
-use Rattle.kem_mail.specs.Mail.{Opener, bodies, judged, open_next, opened}
+use Rattle.kem_mail.specs.Mail.{bodies, open_next, opened}
 use Rattle.kem_mail.specs.Taking.{Judges}
 use Rattle.kem_mail.proofs.Tags.{bodies-hit, bodies-miss}
 
@@ -123,17 +123,3 @@ pub sealed_law : (open_of seal_of : List ℕ → List ℕ → List ℕ → List 
 sealed_law open_of seal_of tag two_way size key nonce aad text sealed e = let len = size key nonce aad text sealed ((two_way key nonce aad text sealed).0 e) in omega arith
 
 -- ---- a mail with one key
-
--- the judgement of a list whose key brings this context
-pub judged-one : (opener : Opener) (key : List ℕ) (context : Context) (sealed : List (List ℕ)) → length key ≡ opener.key_size → opener.context_of key ≡ Some context
-    → judged opener (key ∷ []) sealed ≡ opened opener.open_of context sealed
-judged-one opener key context sealed len is = rw (eq-eqb (length key) opener.key_size len, is) refl
-
-pub judged-other_size : (opener : Opener) (key : List ℕ) (sealed : List (List ℕ)) → length key ≢ opener.key_size → judged opener (key ∷ []) sealed ≡ None
-judged-other_size opener key sealed ne = rw (ne_eqb (length key) opener.key_size ne) refl
-
--- without exactly one key there is no mail
-pub judged-not_one : (opener : Opener) (keys sealed : List (List ℕ)) → ((x : List ℕ) → keys ≢ x ∷ []) → judged opener keys sealed ≡ None
-judged-not_one opener [] sealed other = refl
-judged-not_one opener (key ∷ []) sealed other = absurd (other key refl)
-judged-not_one opener (key ∷ another ∷ keys) sealed other = refl

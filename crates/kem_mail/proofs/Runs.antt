@@ -1,5 +1,5 @@
 -- What a run that told a line owes.
-use Rattle.std.proofs.Common.{◌≡◌, ◌≢◌, ℕ, ◌<◌, ◌≤◌, Bool, true, false, cond, List, [], ◌∷◌, ◌++◌, length, get_or, map, take, Option, Some, None, refl, sym, subst, ◌∙◌, arith, ◌⊎◌, inl, inr}
+use Rattle.std.proofs.Common.{◌≡◌, ◌≢◌, ℕ, ◌<◌, ◌≤◌, Bool, true, List, [], ◌∷◌, ◌++◌, length, get_or, map, take, Option, Some, None, refl, sym, subst, ◌∙◌, arith, ◌⊎◌, inl, inr}
 use Rattle.std.specs.Prelude.{IfSome, IfOk, IsTrue, Result, Ok, Err, ◌↔◌, codes}
 use Rattle.kem_mail.specs.Command.{IsOpen}
 use Rattle.kem_mail.proofs.Heads.{NoHead, one_head}
@@ -35,16 +35,6 @@ module _ (words : List (List ℕ)) (text : List ℕ) (result status fb fn : ℕ)
         | inr part ↦ (status, line, due, part.2)
       ]
 
--- a fault of the sink where the status is 5
-pub told_fault : (result status fb fn : ℕ) (before now : Option (List ℕ)) (line : List ℕ) → IsTold result status fb fn before now line → result ≡ 5 → status ≢ 5 → Rose fb fn
-told_fault result status fb fn before now line (inl all) five other = absurd (other (sym all.0 ∙ five))
-told_fault result status fb fn before now line (inr part) five other = part.1
-
--- the status is this one or 5
-pub told_status : (result status fb fn : ℕ) (before now : Option (List ℕ)) (line : List ℕ) → IsTold result status fb fn before now line → (result ≡ status) ⊎ (result ≡ 5)
-told_status result status fb fn before now line (inl all) = inl all.0
-told_status result status fb fn before now line (inr part) = inr part.0
-
 not_four : (r : ℕ) → IsAnswer r → r ≡ 4 → ⊥
 not_four r (inl e) four = omega (arith, e, four)
 not_four r (inr (inl e)) four = omega (arith, e, four)
@@ -65,11 +55,6 @@ for_some (Some text) P Q p f = f text p
 
 last_word : (a b c d e f g h : List ℕ) → a ∷ b ∷ c ∷ d ∷ [] ≡ e ∷ f ∷ g ∷ h ∷ [] → d ≡ h
 last_word a b c d e f g h is = cc
-
--- which branch of a test a value is
-chosen : {A : Type 0} (b : Bool) (x y z : A) → cond b x y ≡ z → ((b ≡ true) × (x ≡ z)) ⊎ ((b ≡ false) × (y ≡ z))
-chosen true x y z e = inl (refl, e)
-chosen false x y z e = inr (refl, e)
 
 -- no head and mail stand there
 abbrev pub HoldsNone : List ℕ → Type 0

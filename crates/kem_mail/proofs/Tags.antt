@@ -42,9 +42,6 @@ bodies_split tag xs i x lt is hit =
 pub not_one : (front more : List (List ℕ)) (x y : List ℕ) → 0 < length front → front ++ x ∷ more ≢ y ∷ []
 not_one front more x y lt e = let len = ap length e in omega (arith, length-append front (x ∷ more), len)
 
-pub not_none : (front more : List (List ℕ)) (x : List ℕ) → front ++ x ∷ more ≢ []
-not_none front more x e = let len = ap length e in omega (arith, length-append front (x ∷ more), len)
-
 pub some_length : (o : Option (Bor (List ℕ))) → is_some o ≡ true → 0 < length (option_to_list (option_copied o))
 some_length (Some x) e = omega arith
 some_length None e = absurd cc

@@ -24,16 +24,3 @@ front_long (Some text) mid now after line limit b f h n le t = λ other rest wit
     let took = subst (λ (o : Option (List ℕ)). IfSome o (λ text'. TookByte text' now (Some b))) f.2 t in
     let whole : text ≡ (line ++ b ∷ []) ++ took.0 = f.1 ∙ (ap (λ (r : List ℕ). line ++ r) took.1 ∙ sym (append_assoc line (b ∷ []) took.0)) in
     no_line (line ++ b ∷ []) took.0 other rest (NoFeed-push line b h n) (omega (arith, length_push line b)) (sym whole ∙ e)
-
-pub front_line : (before mid now : Option (List ℕ)) (line : List ℕ) (limit : ℕ) → Front before mid line → NoFeed line → length line ≤ limit → IfSome mid (λ text. TookByte text now (Some 10))
-    → IfSome before (λ text. TookLine limit text now (Some line))
-front_line None mid now line limit f h le t = tt
-front_line (Some text) mid now line limit f h le t =
-    let took = subst (λ (o : Option (List ℕ)). IfSome o (λ text'. TookByte text' now (Some 10))) f.2 t in
-    (took.0, f.1 ∙ ap (λ (r : List ℕ). line ++ r) took.1, took.2, h, le)
-
-pub front_more : (before mid now : Option (List ℕ)) (line : List ℕ) (b : ℕ) → Front before mid line → IfSome mid (λ text. TookByte text now (Some b)) → Front before now (line ++ b ∷ [])
-front_more None mid now line b f t = tt
-front_more (Some text) mid now line b f t =
-    let took = subst (λ (o : Option (List ℕ)). IfSome o (λ text'. TookByte text' now (Some b))) f.2 t in
-    (took.0, f.1 ∙ (ap (λ (r : List ℕ). line ++ r) took.1 ∙ sym (append_assoc line (b ∷ []) took.0)), took.2)

@@ -10,3 +10,9 @@ pub fn one_due()
     ensures output { (words : List (List ℕ)) (text : List ℕ) (one other : ℕ) (output another : List ℕ)
         → Due words text one output → Due words text other another → output ≡ another }
 {}
+
+/// Something is owed: no words and text are without a due status and output.
+pub fn some_due()
+    ensures { (words : List (List ℕ)) (text : List ℕ)
+        → ((status : ℕ) (output : List ℕ) → Due words text status output → ⊥) → ⊥ }
+{}

@@ -90,16 +90,6 @@ each-more f size i k fs g out ys within at room long is before =
     ∙ sym (ap (flat_map f) (take_more fs i g within ∙ ap (λ h. take i fs ++ h ∷ []) (get_or_from_slice_get fs i g g at))
     ∙ flat_map-append f (take i fs) (g ∷ []))
 
--- no polynomial is written
-pub each-none : (f : List ℕ → List ℕ) (size : ℕ) (fs : List (List ℕ)) (out : List ℕ) → take (size * 0) out ≡ flat_map f (take 0 fs)
-each-none f size fs out = ap (λ (k : ℕ). take k out) (mul-zero size)
-
--- all are written
-pub each-done : (f : List ℕ → List ℕ) (size i : ℕ) (fs : List (List ℕ)) (out : List ℕ) → i ≡ length fs → length out ≡ size * length fs
-    → take (size * i) out ≡ flat_map f (take i fs) → out ≡ flat_map f fs
-each-done f size i fs out all room done =
-    sym (take_all (size * i) out (omega (arith, ap (λ (k : ℕ). size * k) all, room))) ∙ done ∙ ap (flat_map f) (take_all i fs (omega arith))
-
 -- how many polynomials are read
 pub length-decoded_each : (q d count : ℕ) (bytes : List ℕ) → length (decoded_each q d count bytes) ≡ count
 length-decoded_each q d zero bytes = refl
