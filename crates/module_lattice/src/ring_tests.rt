@@ -3,9 +3,11 @@
 ghost use Rattle.std.specs.Prelude.{◌≡◌, ◌+◌, ◌<◌};
 
 use crate::{
-    BaseField, Butterflies, Elem, MaybeBox, MultiplyNtt, NttPolynomial, Polynomial, Steps, Truncate,
+    BaseField, Butterflies, Elem, Field, Field8380417, MaybeBox, MultiplyNtt, NttPolynomial,
+    Polynomial, Steps, Truncate,
 };
 use std::marker::Brand;
+use std::process::Abort;
 use std::sync::ledger::{Blank, Ledger};
 use std::test::Fail;
 
@@ -36,14 +38,14 @@ fn two_terms(a: u32, b: u32) -> Polynomial<BaseField>
     f
 }
 
-// A butterfly at 0 and 128 with 17^64, and its steps counted from 0.
-fn first_step<B: Butterflies<BaseField>, L: Ledger>(values: &mut B, blank: Blank)
+// A butterfly at 0 and 128, and its steps counted from 0.
+fn first_step<F: Field, B: Butterflies<F>, L: Ledger>(values: &mut B, zeta: Elem<F>, blank: Blank)
     requires name { blank.name ≡ L.name }
     requires parts { blank.parts ≡ L.parts }
     requires some { 0 < blank.parts }
 {
     let mut steps = Steps::<L>::new(blank);
-    values.butterfly(0, 128, Elem::new(1729), &mut steps);
+    values.butterfly(0, 128, zeta, &mut steps);
 }
 
 fn low<T, U: Truncate<T>>(x: T) -> U {
@@ -71,11 +73,33 @@ fn squares_of_linear_pairs(rt: HostRuntime) {
     );
 }
 
+fn polynomial<F: Field>(rt: &impl Abort, values: [u32; 256]) -> Polynomial<F> {
+    assert!(rt; values.iter().all(|x| *x < F::Q));
+    Polynomial::new(values)
+}
+
+// 1 everywhere but at the two places of the butterfly.
+fn ones_but(first: u32, second: u32) -> [u32; 256] {
+    let mut values = [1; 256];
+    values[0] = first;
+    values[128] = second;
+    values
+}
+
+// With 17^64.
 #[test]
 fn one_butterfly(rt: HostRuntime) {
-    let mut f = two_terms(5, 7);
-    first_step::<Polynomial<BaseField>, Brand>(&mut f, Blank::new(1));
-    assert!(rt; f == two_terms(2121, 1218));
+    let mut f = polynomial::<BaseField>(&rt, ones_but(5, 7));
+    first_step::<_, _, Brand>(&mut f, Elem::new(1729), Blank::new(1));
+    assert!(rt; f == polynomial(&rt, ones_but(2121, 1218)));
+}
+
+// With 1753, a root of unity of that field.
+#[test]
+fn one_butterfly_of_the_wider_field(rt: HostRuntime) {
+    let mut f = polynomial::<Field8380417>(&rt, ones_but(5, 7));
+    first_step::<_, _, Brand>(&mut f, Elem::new(1753), Blank::new(1));
+    assert!(rt; f == polynomial(&rt, ones_but(12276, 8368151)));
 }
 
 #[test]

@@ -264,8 +264,24 @@ fn matrices_of<F: MultiplyNtt>(rt: &impl Abort, alloc: Global) -> Result<(), All
     Ok(())
 }
 
+fn rows_of<F: Field>(rt: &impl Abort, alloc: Global) -> Result<(), AllocError> {
+    let mut rows = Vec::new(alloc);
+    for row in [[1, 2, 3], [4, 5, 6]] {
+        rows.push(ntt_vector::<F>(rt, alloc, &row)?)?;
+    }
+    assert!(rt; rows.iter().all(|row| row.len() == 3));
+    let matrix = NttMatrix::new(rows);
+    assert!(rt; matrix.len() == 2);
+    assert!(rt; *matrix.item(1) == ntt_vector(rt, alloc, &[4, 5, 6])?);
+    assert!(rt; matrix.try_clone()? == matrix);
+    tells_apart(rt, &matrix, &NttMatrix::new(Vec::new(alloc)));
+    Ok(())
+}
+
 #[test]
 fn products(rt: HostRuntime) -> Result<(), Fail> {
+    rows_of::<BaseField>(&rt, rt.alloc())?;
+    rows_of::<Field8380417>(&rt, rt.alloc())?;
     products_of::<BaseField>(&rt, rt.alloc())?;
     matrices_of::<BaseField>(&rt, rt.alloc())?;
     Ok(())
