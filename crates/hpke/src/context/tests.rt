@@ -1,19 +1,23 @@
 //! Contexts against those of an independent model, in hex.
 
-ghost use Rattle.std.specs.Prelude.{None};
+ghost use Rattle.std.specs.Prelude.{None, Some, replicate};
+ghost use Rattle.hpke.specs.Mask.{mask_derive, mask_public};
 
-use super::{AeadCtx, AeadCtxR, AeadCtxS};
+use super::{AeadCtx, AeadCtxR, AeadCtxS, derive_enc_ctx};
 use crate::aead::{Aead, AesGcm256, BaseAead};
 use crate::error::HpkeError;
 use crate::kdf::HkdfSha256;
+use crate::kem::Kem;
 use crate::laws::opens_what_was_sealed;
 use crate::mask::{MaskKem, MaskKey};
 use crate::mode::{OpModeR, OpModeS};
+use crate::secret::{SecretSize, SharedSecret};
 use crate::serial::Deserializable;
 use crate::setup::{setup_receiver, setup_sender};
 use crate::tests::ConstantDraw;
 use gcm_core::{NotAuthentic, TooLong};
-use std::alloc::Global;
+use rand_core::Rng;
+use std::alloc::{AllocError, Global};
 use std::test::Fail;
 
 // An AEAD with the sizes of AES-256-GCM that shows its key, and seals nothing.
@@ -93,10 +97,79 @@ impl Aead for ShownAead {
     ghost AEAD_ID = { 2 };
 }
 
-type ShownCtx = AeadCtx<ShownAead, HkdfSha256, MaskKem>;
+// A KEM that is its identifier: its secret is zeros.
+struct NamedKem<const ID: u16>;
+
+impl<const ID: u16> SecretSize for NamedKem<ID> {
+    const N_SECRET: usize = 32;
+
+    ghost N_SECRET = { 32 };
+
+    ghost use Rattle.std.proofs.Common.{rules};
+
+    ghost secret_within = { Prim.search rules };
+}
+
+impl<const ID: u16> Kem for NamedKem<ID> {
+    type PublicKey = MaskKey;
+
+    type PrivateKey = MaskKey;
+
+    type EncappedKey = MaskKey;
+
+    const KEM_ID: u16 = ID;
+
+    ghost KEM_ID = { ID };
+
+    ghost pk_of = { mask_public };
+
+    ghost decap_of = { λ _ _ _. Some (replicate 32 0) };
+
+    ghost encap_of = { λ _ _ draw. Some (replicate 32 0, draw) };
+
+    ghost derive_of = { mask_derive };
+
+    fn sk_to_pk(alloc: Global, sk: &MaskKey) -> Result<MaskKey, AllocError> {
+        MaskKem::sk_to_pk(alloc, sk)
+    }
+
+    fn derive_keypair(alloc: Global, ikm: &[u8]) -> Result<(MaskKey, MaskKey), HpkeError> {
+        MaskKem::derive_keypair(alloc, ikm)
+    }
+
+    fn decap(
+        _alloc: Global,
+        _sk_recip: &MaskKey,
+        _pk_sender_id: Option<&MaskKey>,
+        _encapped_key: &MaskKey,
+    ) -> Result<SharedSecret<NamedKem<ID>>, HpkeError> {
+        Ok(SharedSecret::new(&[0; 32]))
+    }
+
+    fn encap<R: Rng>(
+        alloc: Global,
+        pk_recip: &MaskKey,
+        _sk_sender_id: Option<&MaskKey>,
+        _pk_sender_id: Option<&MaskKey>,
+        csprng: &mut R,
+    ) -> Result<(SharedSecret<NamedKem<ID>>, MaskKey), HpkeError> {
+        let (_secret, encapped_key) = MaskKem::encap(alloc, pk_recip, None, None, csprng)?;
+        Ok((SharedSecret::new(&[0; 32]), encapped_key))
+    }
+
+    ghost use Rattle.std.specs.Prelude.{length};
+    ghost use Rattle.std.proofs.Common.{ap, refl, sym};
+    ghost use Rattle.std.proofs.lemmas.Option.{same_Some};
+
+    ghost decap_size = { λ _ _ _ _ _ _ is. ap length (sym (same_Some _ _ is)) };
+
+    ghost decap_without_sender = { λ _ _ _ _. refl };
+
+    ghost encapped_key_any = { λ _ bytes size. (size, bytes) };
+}
 
 // Key, base nonce and exporter secret, one after another.
-fn shown(alloc: Global, ctx: &ShownCtx) -> Result<String, Fail> {
+fn shown<K: Kem>(alloc: Global, ctx: &AeadCtx<ShownAead, HkdfSha256, K>) -> Result<String, Fail> {
     let key = hex::encode(alloc, &ctx.encryptor.key)?;
     let base_nonce = hex::encode(alloc, ctx.base_nonce.as_slice())?;
     let exporter_secret = hex::encode(alloc, ctx.exporter_secret.as_slice())?;
@@ -152,6 +225,107 @@ fn contexts_of_mode_base(rt: HostRuntime) -> Result<(), Fail> {
         let [sender, recipient] = contexts(rt.alloc(), secret, info)?;
         assert_eq!(rt; sender.as_str(), want);
         assert_eq!(rt; recipient.as_str(), want);
+    }
+    Ok(())
+}
+
+// The context that the schedule gives for this secret, over a KEM of this identifier.
+fn scheduled<const ID: u16>(alloc: Global, secret: &str, info: &str) -> Result<String, Fail> {
+    let secret = hex::decode(alloc, secret)?;
+    let info = hex::decode(alloc, info)?;
+    let ctx: AeadCtx<ShownAead, HkdfSha256, NamedKem<ID>> = derive_enc_ctx(
+        0,
+        secret.as_slice(),
+        info.as_slice(),
+        &[],
+        &[],
+    );
+    shown(alloc, &ctx)
+}
+
+#[test]
+fn contexts_of_other_kems(rt: HostRuntime) -> Result<(), Fail> {
+    let cases = [
+        (
+            0x0040,
+            "4fdbf540069eabf77a18d1cfca3c387cdc074d208ad006b66dfd941356eb0af5",
+            "",
+            "c59c2913b3848c12272dd1821a9dac6d132dac36da9e7c35478d34391310d9c4 e0979f655a4b1fddf459d073 601384dbea6af758562b5b4a67be556a965d7b1eac0d19ce846e49efa480b995",
+        ),
+        (
+            0x0040,
+            "f14c44244c282c311cea21da907cdb5cdc2b2732845537b2c264f67ad0edf25b",
+            "93",
+            "c109abf3cf8847e123e9e2a972821e4cad6e5910f7db85a2e858eec072500f99 c2d83c677b3fc391394f6f79 85ce1055ae4c7431eb5d74acf784bf3d39fce7e1da6848c84fdda305ee1101fc",
+        ),
+        (
+            0x0040,
+            "f6c4347e3a9cbf38f0d827b17a6cf386f1934d7d55ea706c2c43d4f57f13dffe",
+            "14c01efc4351ede4e157b586d7bf72feaf6cecfadae3acbe889e706c2885ee68b49d02c732ffa5684d7a708cd756fdf23dfa97b09db5b0c3e4b7ca5cdd324952",
+            "e33d54cc11940db773cbc5ca950685b443f9094f46014eb43085d48733c4d243 ccc9ad19c4e8307eb6d594a4 2247e4e95d67a96b6ecfc7b8ae6e15ea9e4432bfec689ec4967552e1d290b293",
+        ),
+        (
+            0x0040,
+            "c38ce3cb081c38f6ab0897f978a33058e3cbf1f62ce425517b62b1ce9a8c1810",
+            "5c741343be7be08b0bf025d1936168943ba7b473dcd8a35b33eea895c9b9c35bf70d5022700b4aef2cc3c05a83241844061fdda6c1538db4828fb23e02b708f1ed52d3b409c0dafa1828c79748f2d6e586ab5e47dae4c6a6cabddc2429cfade0ffa923d63c84b73f1a9ce3eb04aed751747be13335831055006178f5c6bad298259a730cd5df86da57e9848c004f0d20e7afa13e0bee1d4da077009ab0483817d10ac2a5a733552c623eb513ced16531ef99573b652c7f6a1ff739c81616bf2e07b0db20033782ff07289d5ac8437f2c70aff949afb340c9cba1d3de160b0c62505b35004e00afe103b86ae630ad042138eba3025553b94d490b8d5799bbbcd3af612d8f8501cc3f432ca199b4b38047d666fae155d21906feec78128ec9b62f39d3c1a1e80378dbac6c1c22",
+            "6913954c184d49bd4ccd1881ba9047e7dc85ecac0082257ce63c8d0b6bd31d36 e4d846fa5500ddec5a1f4180 86f6f7f9d78db13ada9f21bf0f4a5f55c9e0a07579f65798752dfea065ffd437",
+        ),
+        (
+            0x0041,
+            "2e04dd4fb5fb568531c305453f271efdbcd7869a2a1b2a46a27a14e9bc36296c",
+            "",
+            "0b889b3d630952a533f458a349d7cd7892350a4953049c7b30bd26ba927729d2 ca8e8326b4f49e31483c1607 2f05e3a8a5408c182cb7b86a8fa35e93a03782f1dcaf3b251bf045857d5d77b0",
+        ),
+        (
+            0x0041,
+            "98b2ec71a71a55451da07d41721c940e5c19548ec8a879f3ba32d0a3d9c7ca98",
+            "25",
+            "57a5cd73525536cfac82da6e01517e3bf43e7448f925c226ad6a4dbcd745d064 ee0bea66d794ac8a22242109 d2bab8a4622e92fb4b22f346cdd6926854a652173d73d74340ae9feef89fde96",
+        ),
+        (
+            0x0041,
+            "8a4a5960acd1b8e4df639ec1cc9530ec4b1221e25b5a30567d8d91c7f4eb43c8",
+            "41cd7dcbe0ede966d036c0efc70c451def4a87e7d8e6ea292962ec5c92f96901471201bc348fcd27dcd98d06bd02b4273ce364abead6a076eb485456d3db2cba",
+            "b02e498c4ae6e426f3363b15072e23c3ee7a52b5850a3ed3c74ab3238b7f3d12 1db5c2b8c45d3e3e750b2c7d f2482f5fa874a364a312a5cba4712ad442b3e7d7aeb549061e472acfac021578",
+        ),
+        (
+            0x0041,
+            "df1161fe4b792b441a02f0ad8e522c5dfe7dd68c587a5980ac235fad302395ac",
+            "c67738aebfccd8e53bdfbcce33d6a4deb6101cf76abe3edae60ebf770c7a8db8272fc1437244818d778f09d12d830341eafa813208da348b69a98ff765e06c92fe05b2a405db5113444627bc303d179c58cb614c73c9fd206dacf7484020ac770a925b67ff94ea0873401554d3cf679e1b56bb0f384883b760c49d127b4d0b96db1e356d3215953d94b6f84a615986ef08fb0baf67f367c321676d2aef90e92121547cfddfba80f82acad782facaf4ad52aa999fa5869742775cf5afc9036a74c2ec4016dd2eea0e4155370e1f5a7238ff3beec553c6696fc98f8384a6d88d24930598d8241561479a10c9295d2e246b7bbf7454e20b7e098337339798ea280e07bec9fc359b1c8fa7321da64ad27decc1ced6a80e9065cc86ce49a4f20b41d4a6c4b2c502c73156cb90d4e7",
+            "c6ef2df16f22207dee6cfae5113f99f61721bac7f6c6602e7913915afc9b5618 92bf5aa0e95c0502dd4dd6a4 67b0c53ec4f9ed0e7d2ee8f7ce1c36025f65cbd374779bf3cb2c077c5c3e44d6",
+        ),
+        (
+            0x0042,
+            "d3318c63897651c2b45e065f270c23145c92a683a06ee9e8df9daea111388ae6",
+            "",
+            "2ff7876381b33eab22c191e9d2dd82c9101aa08cc88b19466de1b254c36d3a58 b376d38abc21422470c174d2 3e0f2037052fdad9ceb5cd3549f9dfb348b77ae7819e32dddb0d25ea1bedf8a7",
+        ),
+        (
+            0x0042,
+            "dbb8ad27cc63756641e6d9f2e995d93aba96b65b74e34e44f76674d402f3ec4f",
+            "63",
+            "49964695fbf440075a97aff11dab35575df8e18a4d453eb40a2fcbdaf39f072c 207822978276f5aef16fb384 74c23d8d5ddd6c40a4338e398552f99592b9f549acd3d7af0f6bfec8d4b3361a",
+        ),
+        (
+            0x0042,
+            "45a7828735c2f1864b5ec0d999214372d3c6d79cb4d39ffe3da9c408197e0eca",
+            "d6d4259eb833f81804203ce2b8a82f92cba5379fd5e8634e6130b65782a191b70d7c717576cdc40be42f5832b2c05c7e47ac03413e80facb1358a993b73717c5",
+            "15a44cdf0eebd6a8f496e99c06fe7c3c712dd9e641b0072e39aac700e87f6d12 a4e0aaacfc6a07f873a8b3c5 52ac466c8a5bfdf67bbc5bc41874af9e2fa2ecbae3d34e2a4aa0e801b60f0614",
+        ),
+        (
+            0x0042,
+            "bcf7d984ac76131bf6e0991f36b4c61c7a02e2e3e3bd66ae79f8316252fea44d",
+            "13583eb8f13c154715bcdd0bdf91215e9f011b2ca3bdbcb1392be00d8720911ba076bf61da77b739b88043d78984787d1958c0d8d399b9119acab8211f1fecfecfdcb19f8ea41b3329b82c92948d29dcc9d4e65ece2bc3f7d1bfef171b94842385a0d81469df248f6f35c67078597e8024229f929f503c9c36f354823128fe8f4609fc63b64b942655d638275501a8e943d20519e845a9eca852c23937913b73f8151a2b764dbd52d96b53be6ca9af997f03ad851215e76d1c38260ece27275115ede90eb72e51621346325d1e714a7d12d06afcc4f2405e83e40d76d9825990a82df9b505c83d0c424ad5fbc657cb15623e04dc7c7a59d60f31abacd2d9f41089bd4eb28dc7db0c8f1b3f4765430b14a24550cce23ba447256f81eb99b176e2d0c63bfe0021abbfde35fdd7",
+            "4203c00ffb012b00ee0a44cca943b0aba87d303552bf34630fe5d3f8c1e1780e 6919d7a9bc8bf931fa653b9c cb6991f004bff78b0fe35ce87b78149c3cac3f32bd41dc343dbc6209954bb14f",
+        ),
+    ];
+    for (id, secret, info, want) in cases {
+        let context = match id {
+            0x0040 => scheduled::<0x0040>(rt.alloc(), secret, info)?,
+            0x0041 => scheduled::<0x0041>(rt.alloc(), secret, info)?,
+            _ => scheduled::<0x0042>(rt.alloc(), secret, info)?,
+        };
+        assert_eq!(rt; context.as_str(), want);
     }
     Ok(())
 }
