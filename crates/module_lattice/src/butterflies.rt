@@ -1,4 +1,4 @@
-//! Values that only butterflies read and change.
+//! Values that generic code changes by butterflies alone.
 
 ghost use Rattle.std.specs.Prelude.{◌≡◌, ◌≢◌, ◌+◌, ◌<◌, ℕ, List};
 ghost use Rattle.module_lattice.specs.Ring.{IsPolynomial, butterfly};
@@ -9,7 +9,7 @@ use crate::polynomial::Polynomial;
 use crate::steps::Steps;
 use std::sync::ledger::Ledger;
 
-/// 256 numbers below Q that generic code can read and change by butterflies alone.
+/// 256 numbers below Q that generic code can change by butterflies alone, and cannot read.
 pub trait Butterflies<F: Field> {
     // The values: a list of 256 numbers below Q.
     ghost values: { Self → List ℕ };

@@ -1,4 +1,4 @@
-//! What holds of elements, of equality at each type, and of packed numbers.
+//! What holds of elements, of products by powers of X, of equality at each type, and of packed numbers.
 
 ghost use Rattle.std.specs.Prelude.{◌≡◌, ◌+◌, ◌-◌, ◌*◌, ◌/◌, ◌%◌, ◌^◌, ◌<◌, ◌≤◌, ◌++◌, ℕ, All, List, length, map, take, drop, slice_index};
 ghost use Rattle.std.specs.Int.{bit_at};

@@ -284,6 +284,7 @@ fn products(rt: HostRuntime) -> Result<(), Fail> {
     rows_of::<Field8380417>(&rt, rt.alloc())?;
     products_of::<BaseField>(&rt, rt.alloc())?;
     matrices_of::<BaseField>(&rt, rt.alloc())?;
+    laws::powers_of_x();
     Ok(())
 }
 
@@ -348,5 +349,10 @@ fn each_type_in_bytes(rt: HostRuntime) -> Result<(), Fail> {
     reads_and_writes::<NttPolynomial<Field8380417>>(&rt, alloc, 1, one)?;
     reads_and_writes::<Vector<Field8380417>>(&rt, alloc, 2, &two)?;
     reads_and_writes::<NttVector<Field8380417>>(&rt, alloc, 2, &two)?;
+    laws::packed_bits();
+    laws::packed_sizes();
+    laws::unpacks_what_was_packed();
+    laws::packs_what_was_unpacked();
+    laws::decodes_what_was_encoded();
     Ok(())
 }
