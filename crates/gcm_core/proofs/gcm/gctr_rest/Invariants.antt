@@ -2,7 +2,7 @@ use Rattle.std.proofs.Common.{◌≡◌, ◌-◌, ◌*◌, ◌++◌, drop, lengt
 use Rattle.std.specs.Int.{div_ceil}
 use Rattle.gcm_core.specs.Aes.{cipher}
 use Rattle.gcm_core.specs.Gcm.{gctr, gctr_blocks}
-use Rattle.gcm_core.proofs.gcm.gctr.Given as goal
+use Rattle.gcm_core.proofs.gcm.gctr_rest.Given as goal
 
 abbrev pub invariant-loop-i : goal.invariant-loop-i
 invariant-loop-i l =
