@@ -102,3 +102,5 @@ impl<F: Field> CtEq for NttMatrix<F> {
         NttVector::<F>::ct_eq_slice(self.rows.as_slice(), other.rows.as_slice())
     }
 }
+
+impl<F: Field> CtEqSlice for NttMatrix<F> {}

@@ -130,3 +130,5 @@ impl<F: Field> CtEq for Vector<F> {
         Polynomial::<F>::ct_eq_slice(self.items.as_slice(), other.items.as_slice())
     }
 }
+
+impl<F: Field> CtEqSlice for Vector<F> {}
