@@ -1,4 +1,4 @@
-//! What holds of the fields, of elements, of products, of equality at each type, and of packed numbers.
+//! What holds of the fields, of elements, of products and of packed numbers.
 
 ghost use Rattle.std.specs.Prelude.{◌≡◌, ◌+◌, ◌-◌, ◌*◌, ◌/◌, ◌%◌, ◌^◌, ◌<◌, ◌≤◌, ◌++◌, ℕ, All, List, length, map, take, drop, slice_index};
 ghost use Rattle.std.specs.Int.{bit_at};
@@ -11,12 +11,6 @@ ghost use Rattle.module_lattice.specs.Worked.{worked_f, worked_g, worked_product
 
 use crate::elem::Elem;
 use crate::field::{BaseField, Field, Field8380417};
-use crate::ntt_matrix::NttMatrix;
-use crate::ntt_polynomial::NttPolynomial;
-use crate::ntt_vector::NttVector;
-use crate::polynomial::Polynomial;
-use crate::vector::Vector;
-use ctutils::CtEq;
 
 /// The moduli are those of the standards (FIPS 203, section 2.3: 2^8·13 + 1; FIPS 204, section 2.3:
 /// 2^23 - 2^13 + 1). Each multiplier of a reduction is 2 to the shift over the modulus, rounded down,
@@ -66,16 +60,6 @@ pub fn powers_of_x()
 pub fn worked_products()
     ensures product { product 3329 worked_f worked_g ≡ worked_product }
     ensures pairs { pair_products transform_of_f transform_of_g ≡ transform_of_product }
-{}
-
-/// `==` and `ct_eq` agree at each type.
-pub fn ct_eq_agrees<F: Field>()
-    ensures elements { (a b : ℕ) → ⟦<Elem<F> as CtEq>⟧.ct_eq a b ≡ ⟦<Elem<F> as PartialEq>⟧.eq a b }
-    ensures polynomials { (f g : List ℕ) → ⟦<Polynomial<F> as CtEq>⟧.ct_eq f g ≡ ⟦<Polynomial<F> as PartialEq>⟧.eq f g }
-    ensures ntt_polynomials { (f g : List ℕ) → ⟦<NttPolynomial<F> as CtEq>⟧.ct_eq f g ≡ ⟦<NttPolynomial<F> as PartialEq>⟧.eq f g }
-    ensures vectors { (u v : List (List ℕ)) → ⟦<Vector<F> as CtEq>⟧.ct_eq u v ≡ ⟦<Vector<F> as PartialEq>⟧.eq u v }
-    ensures ntt_vectors { (u v : List (List ℕ)) → ⟦<NttVector<F> as CtEq>⟧.ct_eq u v ≡ ⟦<NttVector<F> as PartialEq>⟧.eq u v }
-    ensures ntt_matrices { (m n : List (List (List ℕ))) → ⟦<NttMatrix<F> as CtEq>⟧.ct_eq m n ≡ ⟦<NttMatrix<F> as PartialEq>⟧.eq m n }
 {}
 
 /// Bit d·i + j of packed bytes is bit j of number i, where the numbers make whole bytes (FIPS 203,

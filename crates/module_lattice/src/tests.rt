@@ -6,7 +6,8 @@ use crate::{
     BaseField, Elem, Encode, Field, Field8380417, MultiplyNtt, NttMatrix, NttPolynomial, NttVector,
     Polynomial, Vector, laws,
 };
-use ctutils::CtEq;
+use ctutils::laws::ct_eq_agrees;
+use ctutils::{CtEq, CtEqAgrees};
 use std::alloc::{AllocError, Global};
 use std::process::Abort;
 use std::test::Fail;
@@ -60,7 +61,8 @@ fn ntt_vector<F: Field>(
 }
 
 // Values that differ, by `==` and by `ct_eq`.
-fn tells_apart<T: CtEq + PartialEq>(rt: &impl Abort, a: &T, b: &T) {
+fn tells_apart<T: CtEqAgrees>(rt: &impl Abort, a: &T, b: &T) {
+    ct_eq_agrees::<T>();
     assert!(rt; a == a && a != b);
     assert!(rt; a.ct_eq(a).to_bool() && !a.ct_eq(b).to_bool() && a.ct_ne(b).to_bool());
 }
@@ -130,7 +132,6 @@ fn elements(rt: HostRuntime) {
     assert_eq!(rt; Elem::<BaseField>::default().get(), 0);
     tells_apart(&rt, &elem::<BaseField>(&rt, 1), &elem(&rt, 2));
     tells_apart(&rt, &elem::<Field8380417>(&rt, 0), &elem(&rt, 8380416));
-    laws::ct_eq_agrees::<BaseField>();
 }
 
 fn polynomials_of<F: Field>(rt: &impl Abort, a: u32, b: u32) {

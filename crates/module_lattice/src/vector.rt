@@ -6,7 +6,7 @@ ghost use Rattle.module_lattice.specs.Vectors.{vector_sum, vector_difference, ve
 use crate::elem::Elem;
 use crate::field::Field;
 use crate::polynomial::Polynomial;
-use ctutils::{Choice, CtEq, CtEqSlice};
+use ctutils::{Choice, CtEq, CtEqAgrees, CtEqSlice};
 use std::alloc::AllocError;
 use std::marker::Model;
 
@@ -132,3 +132,9 @@ impl<F: Field> CtEq for Vector<F> {
 }
 
 impl<F: Field> CtEqSlice for Vector<F> {}
+
+impl<F: Field> CtEqAgrees for Vector<F> {
+    ghost use Rattle.std.proofs.Common.{rules};
+
+    ghost agrees = { Prim.search rules };
+}
