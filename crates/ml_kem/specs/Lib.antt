@@ -1,0 +1,2 @@
+-- the number-theoretic transform and its inverse
+pub mod Transform

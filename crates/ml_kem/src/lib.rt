@@ -1,0 +1,5 @@
+//! ML-KEM: a key encapsulation mechanism that stands on module lattices (FIPS 203), over any lawful
+//! family of hash functions.
+#![tactic(auto)]
+
+pub mod laws;
