@@ -3,3 +3,16 @@
 #![tactic(auto)]
 
 pub mod laws;
+mod parameters;
+mod ring;
+mod rounding;
+mod sampling;
+mod transform;
+
+pub use parameters::{B32, MlKem512, MlKem768, MlKem1024, ParameterSet, Seed, SharedKey};
+pub use rounding::{compress, decompress};
+pub use sampling::{sample_ntt, sample_poly_cbd};
+pub use transform::{ntt, ntt_inverse};
+
+#[cfg(test)]
+mod tests;
