@@ -1,8 +1,24 @@
 //! Laws of the definitions, each as the contract of a function that does nothing.
 
-ghost use Rattle.std.specs.Prelude.{◌≡◌, ℕ, List, [], ◌∷◌, ◌++◌, codes, replicate};
+ghost use Rattle.std.specs.Prelude.{◌≡◌, ℕ, ◌-◌, ◌^◌, List, [], ◌∷◌, ◌++◌, codes, replicate, Some};
+ghost use Rattle.age_core.specs.Outside.{last_count, Rose, GainsPart};
 ghost use Rattle.age_core.specs.Stanza.{Stanza, IsStanza, spelling};
 ghost use Rattle.age_core.specs.Reading.{HasNoDone, Reading, Reads, StandsBeforeDone};
+
+/// Counts of faults at their edges: a count rises by one, and stands still at 2 ^ 64 - 1.
+pub fn worked_counts()
+    ensures last { last_count ≡ 2 ^ 64 - 1 }
+    ensures risen { Rose 4 5 }
+    ensures stands { Rose 4 4 → ⊥ }
+    ensures at_last { Rose last_count last_count }
+    ensures before_last { Rose (last_count - 1) (last_count - 1) → ⊥ }
+{}
+
+/// A sink that holds `a` and gets a part of `bcd`: it holds `abc`, and not `ac`.
+pub fn worked_parts()
+    ensures part { GainsPart (Some (codes "a")) (Some (codes "abc")) (codes "bcd") }
+    ensures no_part { GainsPart (Some (codes "a")) (Some (codes "ac")) (codes "bcd") → ⊥ }
+{}
 
 /// No spelling begins another: what two stanzas spell at the front of one text is one stanza.
 pub fn no_spelling_begins_another()
