@@ -254,5 +254,5 @@ gcm_ad-refused ciph nonce aad c t len h =
     (false_from_ne_true (is_authentic ciph nonce aad (c ++ t)) (λ e. h ((is_authentic-Decides ciph nonce aad c t len).0 e)))
 
 -- a key schedule that was made of a key of 32 bytes
-pub take-expanded : (key w : List ℕ) → length key ≡ 32 → w ≡ key_expansion key → take 32 w ≡ key
-take-expanded key w len e = ap (take 32) e ∙ ap (λ (n : ℕ). take n (key_expansion key)) (sym len) ∙ take-key_expansion key
+pub take-expanded : (key w : List ℕ) → w ≡ key_expansion key → take (length key) w ≡ key
+take-expanded key w e = ap (take (length key)) e ∙ take-key_expansion key

@@ -1,9 +1,9 @@
 // What holds of the definitions that the contracts of this crate cite.
 
-ghost use Rattle.std.specs.Prelude.{◌≡◌, ◌↔◌, ◌+◌, ◌^◌, ◌<◌, ℕ, List, Some, bit_xor, length, map};
+ghost use Rattle.std.specs.Prelude.{◌≡◌, ◌↔◌, ◌+◌, ◌^◌, ◌<◌, ◌∷◌, ◌++◌, [], ℕ, List, Some, bit_xor, length, map, replicate};
 ghost use Rattle.std.specs.List.{range_with_len};
 ghost use Rattle.gcm_core.specs.Aes.{s_box};
-ghost use Rattle.gcm_core.specs.Gcm.{open_of, seal_of};
+ghost use Rattle.gcm_core.specs.Gcm.{inc32, open_of, seal_of};
 ghost use Rattle.gcm_core.specs.Ghash.{block_product};
 
 use crate::aes::S_BOX;
@@ -31,6 +31,12 @@ pub fn block_products()
     ensures additive { (a b c : ℕ) → b < 2 ^ 128 → c < 2 ^ 128
         → block_product a (bit_xor b c) ≡ bit_xor (block_product a b) (block_product a c) }
     ensures one { (b : ℕ) → block_product 1 b ≡ b }
+{}
+
+/// The count in the last four bytes of a counter block goes from 2^32 - 1 to 0, and the other bytes
+/// stay (NIST SP 800-38D, section 6.2).
+pub fn counter_wraps()
+    ensures { inc32 (replicate 12 7 ++ 255 ∷ 255 ∷ 255 ∷ 255 ∷ []) ≡ replicate 12 7 ++ 0 ∷ 0 ∷ 0 ∷ 0 ∷ [] }
 {}
 
 /// The S-box as a table (FIPS 197, table 4), whose place `b` holds the affine map at the inverse of

@@ -1,4 +1,4 @@
-// AES-256-GCM: authenticated encryption with associated data, in place and without memory
+// AES-128-GCM and AES-256-GCM: authenticated encryption with associated data, in place and without memory
 // (FIPS 197, NIST SP 800-38D).
 #![tactic(auto)]
 
@@ -7,9 +7,10 @@ mod aes_gcm;
 mod error;
 mod gcm;
 mod ghash;
+mod keyed;
 pub mod laws;
 #[cfg(test)]
 mod tests;
 
-pub use aes_gcm::AesGcm256Impl;
+pub use aes_gcm::{AesGcm128Impl, AesGcm256Impl};
 pub use error::{NotAuthentic, TooLong};

@@ -4,5 +4,5 @@ pub mod Hmac
 pub mod Hkdf
 -- what the two streaming types have been fed
 pub mod Fed
--- that a SHA-256 digest is bytes
+-- that digests of SHA-256, SHA-384 and SHA-512 are bytes
 pub mod Digests

@@ -1,10 +1,7 @@
-//! The hash functions that HMAC and HKDF stand on, and their digests.
+//! What HMAC and HKDF ask of a hash function, and its digests.
 
 ghost use Rattle.std.specs.Prelude.{◌≡◌, ◌<◌, ◌≤◌, ◌⊎◌, ℕ, List, [], ◌++◌, length, All};
-ghost use Rattle.sha2.specs.Sha256.{sha256};
-ghost use Rattle.sha2.specs.Hashers.{Holds256};
 
-use sha2::{Digest, Sha256};
 use std::marker::Model;
 
 /// The most bytes that a digest may have: those of SHA-512.
@@ -92,52 +89,4 @@ pub trait HkdfHash: Sized + Drop {
     ghost digest_has_its_size: { (message : List ℕ) → length (hash_of message) ≡ DIGEST_SIZE };
 
     ghost digest_is_bytes: { (message : List ℕ) → All (λ byte. byte < 256) (hash_of message) };
-}
-
-/// SHA-256 (FIPS 180-4, section 6.2), of the crate `sha2`. The standard has digests for messages of
-/// fewer than 2^61 bytes. A longer one is taken too: its padding ends with its length in bits modulo
-/// 2^64.
-#[derive(Drop)]
-pub struct HashSha256 {
-    hasher: Sha256,
-}
-
-impl HkdfHash for HashSha256 {
-    const DIGEST_SIZE: usize = 32;
-
-    const BLOCK_SIZE: usize = 64;
-
-    ghost DIGEST_SIZE = { 32 };
-
-    ghost BLOCK_SIZE = { 64 };
-
-    ghost hash_of = { sha256 };
-
-    ghost holds = { λ hash message. Holds256 hash.hasher message };
-
-    fn start() -> HashSha256 {
-        HashSha256 {
-            hasher: Sha256::new(),
-        }
-    }
-
-    fn update(&mut self, piece: &[u8]) {
-        self.hasher.update(piece);
-    }
-
-    fn finish(self) -> DigestBytes {
-        DigestBytes::from_slice(&self.hasher.finalize())
-    }
-
-    ghost use Rattle.std.proofs.Common.{rules, refl, inl};
-    ghost use Rattle.sha2.proofs.Facts256.{length-sha256};
-    ghost use Rattle.hkdf_core.specs.Digests.{sha256_is_bytes};
-
-    ghost digest_size_in_range = { Prim.search rules };
-
-    ghost block_size_is_64_or_128 = { inl refl };
-
-    ghost digest_has_its_size = { length-sha256 };
-
-    ghost digest_is_bytes = { sha256_is_bytes };
 }

@@ -6,6 +6,8 @@ use crate::{HashSha256, Hkdf, HkdfExtract, HkdfHash, Hmac, MAX_OUTPUT_BLOCKS};
 use std::alloc::Global;
 use std::test::Fail;
 
+mod long_digests;
+
 // The digest of a message, by the calls of the trait.
 fn digest<T: HkdfHash>(alloc: Global, message: &[u8]) -> Result<String, Fail> {
     let mut hasher = T::start();
