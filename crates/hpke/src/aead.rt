@@ -1,6 +1,7 @@
 //! Authenticated encryption with associated data (RFC 9180, sections 4 and 7.3).
 
 ghost use Rattle.std.specs.Prelude.{◌≡◌, ◌≤◌, ◌+◌, ◌↔◌, ◌++◌, ℕ, List, length, Option, None, Some, IsErr, OnOk, OnErr};
+ghost use Rattle.hpke.specs.Schedule.{AeadAlgorithm};
 
 use gcm_core::{AesGcm256Impl, NotAuthentic, TooLong};
 
@@ -97,6 +98,16 @@ pub trait Aead {
     const AEAD_ID: u16;
 
     ghost AEAD_ID: { ℕ };
+
+    /// What the AEAD brings to a suite.
+    ghost aead: { AeadAlgorithm };
+
+    // It is made of the lengths of a key and a nonce and the identifier.
+    ghost aead_is: { aead ≡ record {
+      key_size = Self.AeadImpl.KEY_SIZE;
+      nonce_size = Self.AeadImpl.NONCE_SIZE;
+      aead_id = AEAD_ID;
+    } };
 }
 
 /// AES-256-GCM.
@@ -108,6 +119,12 @@ impl Aead for AesGcm256 {
     const AEAD_ID: u16 = 2;
 
     ghost AEAD_ID = { 2 };
+
+    ghost use Rattle.std.proofs.Common.{refl};
+
+    ghost aead = { record { key_size = 32; nonce_size = 12; aead_id = 2 } };
+
+    ghost aead_is = { refl };
 }
 
 /// How many bytes a key of AES-256-GCM has.

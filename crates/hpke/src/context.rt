@@ -5,7 +5,7 @@ ghost use Rattle.hpke.specs.Answers.{Answers};
 ghost use Rattle.hpke.specs.Messages.{NumberedAnswers, used};
 ghost use Rattle.hpke.specs.Nonce.{nonce_of, number_after};
 ghost use Rattle.hpke.specs.declared.error.HpkeError.TheVariants.{OpenError, SealError};
-ghost use Rattle.hpke.specs.Schedule.{Suite, schedule, schedule_context};
+ghost use Rattle.hpke.specs.Schedule.{schedule, suite_of};
 
 use crate::aead::{Aead, BaseAead, MAX_TAG_SIZE};
 use crate::error::HpkeError;
@@ -241,16 +241,7 @@ pub fn derive_enc_ctx<A: Aead, D: Kdf, K: Kem>(
     psk: &[u8],
     psk_id: &[u8],
 ) -> AeadCtx<A, D, K>
-    ensures { let suite : Suite = record {
-      hash = D.HashImpl.hash_of;
-      block_size = D.HashImpl.BLOCK_SIZE;
-      digest_size = D.HashImpl.DIGEST_SIZE;
-      key_size = A.AeadImpl.KEY_SIZE;
-      nonce_size = A.AeadImpl.NONCE_SIZE;
-      kem_id = K.KEM_ID;
-      kdf_id = D.KDF_ID;
-      aead_id = A.AEAD_ID;
-    } in result ≡ schedule suite mode shared_secret.now info.now psk.now psk_id.now }
+    ensures { result ≡ schedule (suite_of K.KEM_ID D.kdf A.aead) mode shared_secret.now info.now psk.now psk_id.now }
 {
     let suite_id = hpke_suite_id(K::KEM_ID, D::KDF_ID, A::AEAD_ID);
     let (psk_id_hash, _) = labeled_extract::<D>(&[], &suite_id, b"psk_id_hash", psk_id);

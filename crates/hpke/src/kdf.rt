@@ -3,6 +3,7 @@
 ghost use Rattle.std.specs.Prelude.{◌≡◌, ◌*◌, ◌<◌, ◌≤◌, ◌↔◌, ℕ, List, [], length, IsErr, OnOk, OnErr};
 ghost use Rattle.hkdf_core.specs.Hmac.{key_block};
 ghost use Rattle.hpke.specs.Labels.{kem_suite, hpke_suite, labeled_extract, labeled_expand, extract_and_expand};
+ghost use Rattle.hpke.specs.Schedule.{KdfAlgorithm};
 
 use crate::short::{MAX_SHORT, ShortBytes};
 use hkdf_core::{
@@ -21,6 +22,17 @@ pub trait Kdf {
     const KDF_ID: u16;
 
     ghost KDF_ID: { ℕ };
+
+    /// What the function brings to a suite.
+    ghost kdf: { KdfAlgorithm };
+
+    // It is made of the hash function and the identifier.
+    ghost kdf_is: { kdf ≡ record {
+      hash = Self.HashImpl.hash_of;
+      block_size = Self.HashImpl.BLOCK_SIZE;
+      digest_size = Self.HashImpl.DIGEST_SIZE;
+      kdf_id = KDF_ID;
+    } };
 }
 
 /// HKDF-SHA256.
@@ -32,6 +44,13 @@ impl Kdf for HkdfSha256 {
     const KDF_ID: u16 = 1;
 
     ghost KDF_ID = { 1 };
+
+    ghost use Rattle.std.proofs.Common.{refl};
+    ghost use Rattle.sha2.specs.Sha256.{sha256};
+
+    ghost kdf = { record { hash = sha256; block_size = 64; digest_size = 32; kdf_id = 1 } };
+
+    ghost kdf_is = { refl };
 }
 
 /// LabeledExtract (RFC 9180, section 4): the pseudorandom key, of DIGEST_SIZE bytes, and the
@@ -47,6 +66,7 @@ pub fn labeled_extract<D: Kdf>(
     ensures prk_size { length result.0 ≡ D.HashImpl.DIGEST_SIZE }
     ensures hkdf { result.1 ≡ key_block D.HashImpl.hash_of D.HashImpl.BLOCK_SIZE
         (labeled_extract D.HashImpl.hash_of D.HashImpl.BLOCK_SIZE salt.now suite_id.now label.now ikm.now) }
+    ensures expands { ⟦<Hkdf<D::HashImpl> as LabeledExpand>⟧.expands_from result.1 result.0 }
 {
     let mut extraction = HkdfExtract::<D::HashImpl>::new(salt);
     extraction.input_ikm(VERSION_LABEL);

@@ -45,7 +45,8 @@ pub trait Kem: SecretSize + Sized {
 
     /// The public key of a private key. The only error is want of memory.
     fn sk_to_pk(alloc: Global, sk: &Self::PrivateKey) -> Result<Self::PublicKey, AllocError>
-        ensures { IfOk result (λ pk. Self.PublicKey.bytes pk ≡ pk_of (Self.PrivateKey.bytes sk.now)) };
+        ensures value { IfOk result (λ pk. Self.PublicKey.bytes pk ≡ pk_of (Self.PrivateKey.bytes sk.now)) }
+        ensures valid { IfOk result (λ pk. Self.PublicKey.has_value (Self.PublicKey.bytes pk)) };
 
     /// The pair of keys that input keying material gives (RFC 9180, section 4).
     ///
@@ -54,8 +55,10 @@ pub trait Kem: SecretSize + Sized {
         alloc: Global,
         ikm: &[u8],
     ) -> Result<(Self::PrivateKey, Self::PublicKey), HpkeError>
-        ensures { Answers (λ pair. (Self.PrivateKey.bytes pair.0, Self.PublicKey.bytes pair.1)) ValidationError result
-            (derive_of ikm.now) };
+        ensures value { Answers (λ pair. (Self.PrivateKey.bytes pair.0, Self.PublicKey.bytes pair.1)) ValidationError result
+            (derive_of ikm.now) }
+        ensures valid { IfOk result (λ pair. Self.PrivateKey.has_value (Self.PrivateKey.bytes pair.0)
+            × Self.PublicKey.has_value (Self.PublicKey.bytes pair.1)) };
 
     /// A pair of keys by input keying material that is drawn, of as many bytes as a private key has,
     /// by one call of `fill_bytes`. Where memory runs out before, nothing is drawn.
@@ -69,6 +72,8 @@ pub trait Kem: SecretSize + Sized {
             ⊎ ((result ≡ Err NoMemory) × (R.stream csprng.new ≡ R.stream csprng.old)) }
         ensures value { Answers (λ pair. (Self.PrivateKey.bytes pair.0, Self.PublicKey.bytes pair.1)) ValidationError result
             (derive_of (fill_bytes Self.PrivateKey.wire_size (R.stream csprng.old)).0) }
+        ensures valid { IfOk result (λ pair. Self.PrivateKey.has_value (Self.PrivateKey.bytes pair.0)
+            × Self.PublicKey.has_value (Self.PublicKey.bytes pair.1)) }
     {
         let mut ikm = vec![in alloc; 0; Self::PrivateKey::size()]?;
         csprng.fill_bytes(ikm.as_mut_slice());
@@ -106,9 +111,18 @@ pub trait Kem: SecretSize + Sized {
             (encap_of (Self.PublicKey.bytes pk_recip.now)
             (both (option_map (λ sk. Self.PrivateKey.bytes sk.now) sk_sender_id.entry)
             (option_map (λ pk. Self.PublicKey.bytes pk.now) pk_sender_id.entry))
-            (fill_bytes 32 (R.stream csprng.old)).0) };
+            (fill_bytes 32 (R.stream csprng.old)).0) }
+        ensures valid { IfOk result (λ made. Self.EncappedKey.has_value (Self.EncappedKey.bytes made.1)) };
 
-    // A secret is of one length.
+    // A derived public key is that of the derived private key.
+    ghost derive_pair: { (ikm sk pk : List ℕ) → derive_of ikm ≡ Some (sk, pk) → pk ≡ pk_of sk };
+
+    // A secret that is encapsulated is of one length.
+    ghost encap_size: { (pk : List ℕ) (sender : Option (List ℕ × List ℕ)) (draw secret enc : List ℕ)
+        → Self.PublicKey.has_value pk → length draw ≡ 32 → encap_of pk sender draw ≡ Some (secret, enc)
+        → length secret ≡ Self.N_SECRET };
+
+    // A secret that is found is of one length.
     ghost decap_size: { (sk : List ℕ) (sender : Option (List ℕ)) (enc secret : List ℕ) → Self.PrivateKey.has_value sk
         → Self.EncappedKey.has_value enc → decap_of sk sender enc ≡ Some secret → length secret ≡ Self.N_SECRET };
 

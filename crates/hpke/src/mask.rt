@@ -2,7 +2,7 @@
 
 ghost use Rattle.std.specs.Prelude.{◌≡◌, length};
 ghost use Rattle.hpke.specs.Bytes.{xor_bytes};
-ghost use Rattle.hpke.specs.Mask.{mask_key, mask_public, mask_decap, mask_encap, mask_derive};
+ghost use Rattle.hpke.specs.Mask.{IsMaskKey, mask_key, mask_public, mask_decap, mask_encap, mask_derive};
 
 use crate::error::HpkeError;
 use crate::kdf::{HkdfSha256, expand_short, kem_suite_id, labeled_extract};
@@ -34,10 +34,22 @@ impl Model for MaskKey {
     ghost view = { λ key. key.bytes };
 }
 
+// The key of these bytes.
+fn key(bytes: [u8; MASK_LEN]) -> MaskKey
+    ensures value { result ≡ bytes }
+    ensures valid { IsMaskKey result }
+{
+    MaskKey { bytes }
+}
+
 impl Serializable for MaskKey {
     ghost bytes = { λ key. key };
 
     ghost wire_size = { 32 };
+
+    ghost use Rattle.hpke.specs.Mask.{IsMaskKey};
+
+    ghost has_value = { IsMaskKey };
 
     fn size() -> usize {
         MASK_LEN
@@ -46,12 +58,12 @@ impl Serializable for MaskKey {
     fn write_exact(&self, buffer: &mut [u8]) {
         buffer.copy_from_slice(&self.bytes);
     }
+
+    ghost value_size = { λ _ is. is.0 };
 }
 
 impl Deserializable for MaskKey {
-    ghost use Rattle.hpke.specs.Mask.{IsMaskKey};
-
-    ghost has_value = { IsMaskKey };
+    ghost takes_memory = { ⊥ };
 
     fn from_bytes(_alloc: Global, encoded: &[u8]) -> Result<MaskKey, HpkeError> {
         if encoded.len() != MASK_LEN {
@@ -59,7 +71,7 @@ impl Deserializable for MaskKey {
         }
         let mut bytes = [0; MASK_LEN];
         bytes.copy_from_slice(encoded);
-        Ok(MaskKey { bytes })
+        Ok(key(bytes))
     }
 }
 
@@ -99,12 +111,12 @@ impl Kem for MaskKem {
     ghost derive_of = { mask_derive };
 
     fn sk_to_pk(_alloc: Global, sk: &MaskKey) -> Result<MaskKey, AllocError> {
-        Ok(MaskKey { bytes: sk.bytes })
+        Ok(key(sk.bytes))
     }
 
     fn derive_keypair(_alloc: Global, ikm: &[u8]) -> Result<(MaskKey, MaskKey), HpkeError> {
         let bytes = derive_key(ikm);
-        Ok((MaskKey { bytes }, MaskKey { bytes }))
+        Ok((key(bytes), key(bytes)))
     }
 
     fn decap(
@@ -132,11 +144,15 @@ impl Kem for MaskKem {
             return Err(HpkeError::EncapError);
         }
         let secret = SharedSecret::new(&mask(&pk_recip.bytes, &draw));
-        Ok((secret, MaskKey { bytes: draw }))
+        Ok((secret, key(draw)))
     }
 
     ghost use Rattle.std.proofs.Common.{refl};
-    ghost use Rattle.hpke.specs.MaskLaws.{mask_decap-size};
+    ghost use Rattle.hpke.specs.MaskLaws.{mask_decap-size, mask_derive-pair, mask_encap-size};
+
+    ghost derive_pair = { mask_derive-pair };
+
+    ghost encap_size = { mask_encap-size };
 
     ghost decap_size = { mask_decap-size };
 
@@ -151,9 +167,9 @@ fn derive_key(ikm: &[u8]) -> [u8; MASK_LEN]
 {
     let suite_id = kem_suite_id(MASK_KEM_ID);
     let (_prk, hkdf) = labeled_extract::<HkdfSha256>(&[], &suite_id, b"dkp_prk", ikm);
-    let key = expand_short(&hkdf, &suite_id, b"sk", &[], MASK_LEN);
+    let short = expand_short(&hkdf, &suite_id, b"sk", &[], MASK_LEN);
     let mut bytes = [0; MASK_LEN];
-    bytes.copy_from_slice(key.as_slice());
+    bytes.copy_from_slice(short.as_slice());
     bytes
 }
 

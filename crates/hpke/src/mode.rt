@@ -20,7 +20,7 @@ pub enum OpModeS {
 impl OpModeR {
     /// The number of the mode (RFC 9180, table 1).
     pub fn mode_id(self) -> u8
-        ensures { result ≡ mode_base }
+        ensures { result ≡ mode_base.number }
     {
         match self {
             OpModeR::Base => 0,
@@ -31,7 +31,7 @@ impl OpModeR {
 impl OpModeS {
     /// The number of the mode (RFC 9180, table 1).
     pub fn mode_id(self) -> u8
-        ensures { result ≡ mode_base }
+        ensures { result ≡ mode_base.number }
     {
         match self {
             OpModeS::Base => 0,

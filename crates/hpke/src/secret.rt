@@ -26,20 +26,20 @@ pub trait SecretSize {
 
 /// The secret of an encapsulation by K: N_SECRET bytes.
 #[derive(Drop)]
-pub struct SharedSecret<K> {
+pub struct SharedSecret<K: SecretSize> {
     bytes: [u8; MAX_SECRET],
     len: usize,
     kem: PhantomData<K>,
 }
 
-impl<K> Model for SharedSecret<K> {
-    ghost use Rattle.std.specs.Prelude.{◌≤◌, ℕ, List, take};
+impl<K: SecretSize> Model for SharedSecret<K> {
+    ghost use Rattle.std.specs.Prelude.{◌≡◌, ◌≤◌, ℕ, List, take};
 
     ghost Value = { List ℕ };
 
     ghost view = { λ s. take s.len s.bytes };
 
-    ghost invariant = { λ s. s.len ≤ 64 };
+    ghost invariant = { λ s. (s.len ≡ K.N_SECRET) × (s.len ≤ 64) };
 }
 
 impl<K: SecretSize> SharedSecret<K> {
@@ -56,12 +56,11 @@ impl<K: SecretSize> SharedSecret<K> {
             kem: PhantomData,
         }
     }
-}
 
-impl<K> SharedSecret<K> {
     /// The bytes of the secret.
     pub fn as_slice(&self) -> &[u8]
-        ensures { result.now ≡ self.now }
+        ensures bytes { result.now ≡ self.now }
+        ensures size { length result.now ≡ K.N_SECRET }
     {
         &self.bytes[..self.len]
     }

@@ -1,9 +1,9 @@
 //! How both sides get their contexts (RFC 9180, section 5.1).
 
-ghost use Rattle.std.specs.Prelude.{◌≡◌, [], None, IsSome};
+ghost use Rattle.std.specs.Prelude.{◌≡◌, None, IsSome};
 ghost use Rattle.rand_core.specs.Stream.{fill_bytes};
 ghost use Rattle.hpke.specs.Answers.{Answers};
-ghost use Rattle.hpke.specs.Schedule.{Suite, mode_base, sender_setup, receiver_setup};
+ghost use Rattle.hpke.specs.Schedule.{suite_of, mode_base, sender_setup, receiver_setup};
 ghost use Rattle.hpke.specs.declared.error.HpkeError.TheVariants.{DecapError, EncapError};
 
 use crate::aead::Aead;
@@ -28,17 +28,8 @@ pub fn setup_sender<'a, A: Aead, D: Kdf, K: Kem, R: Rng>(
     csprng: &mut R,
 ) -> Result<(K::EncappedKey, AeadCtxS<A, D, K>), HpkeError>
     ensures drawn { R.stream csprng.new ≡ (fill_bytes 32 (R.stream csprng.old)).1 }
-    ensures value { let suite : Suite = record {
-      hash = D.HashImpl.hash_of;
-      block_size = D.HashImpl.BLOCK_SIZE;
-      digest_size = D.HashImpl.DIGEST_SIZE;
-      key_size = A.AeadImpl.KEY_SIZE;
-      nonce_size = A.AeadImpl.NONCE_SIZE;
-      kem_id = K.KEM_ID;
-      kdf_id = D.KDF_ID;
-      aead_id = A.AEAD_ID;
-    } in Answers (λ made. (K.EncappedKey.bytes made.0, made.1)) EncapError result
-        (sender_setup suite mode_base info.now [] []
+    ensures value { Answers (λ made. (K.EncappedKey.bytes made.0, made.1)) EncapError result
+        (sender_setup (suite_of K.KEM_ID D.kdf A.aead) mode_base info.now
         (K.encap_of (K.PublicKey.bytes pk_recip.now) None (fill_bytes 32 (R.stream csprng.old)).0)) }
 {
     // The types name a lifetime, which the checker can't find for a reference that isn't there.
@@ -66,17 +57,8 @@ pub fn setup_receiver<'a, A: Aead, D: Kdf, K: Kem>(
     encapped_key: &'a K::EncappedKey,
     info: &[u8],
 ) -> Result<AeadCtxR<A, D, K>, HpkeError>
-    ensures value { let suite : Suite = record {
-      hash = D.HashImpl.hash_of;
-      block_size = D.HashImpl.BLOCK_SIZE;
-      digest_size = D.HashImpl.DIGEST_SIZE;
-      key_size = A.AeadImpl.KEY_SIZE;
-      nonce_size = A.AeadImpl.NONCE_SIZE;
-      kem_id = K.KEM_ID;
-      kdf_id = D.KDF_ID;
-      aead_id = A.AEAD_ID;
-    } in Answers (λ context. context) DecapError result
-        (receiver_setup suite mode_base info.now [] []
+    ensures value { Answers (λ context. context) DecapError result
+        (receiver_setup (suite_of K.KEM_ID D.kdf A.aead) mode_base info.now
         (K.decap_of (K.PrivateKey.bytes sk_recip.now) None (K.EncappedKey.bytes encapped_key.now))) }
     ensures without_sender { IsSome (K.decap_of (K.PrivateKey.bytes sk_recip.now) None (K.EncappedKey.bytes encapped_key.now)) }
 {

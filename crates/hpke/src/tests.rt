@@ -140,6 +140,10 @@ fn extract_and_expand_of_a_kem(rt: HostRuntime) -> Result<(), Fail> {
         hex::encode(rt.alloc(), &out)?.as_str(),
         "bc09bedfcafff7867e36090996fcac6a56f045f80056439127eb0d54979dc82f43eefd8f896826a4"
     );
+    let mut refused = vec![in rt.alloc(); 7; 8161]?;
+    assert!(rt;
+        extract_and_expand::<HkdfSha256>(b"ikm", b"KEM", b"info", refused.as_mut_slice()).is_err()
+    );
     Ok(())
 }
 

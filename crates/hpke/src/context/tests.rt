@@ -1,6 +1,6 @@
 //! Contexts against those of an independent model, in hex.
 
-ghost use Rattle.std.specs.Prelude.{None, Some, replicate};
+ghost use Rattle.std.specs.Prelude.{◌≡◌, None, Some, IfOk, replicate};
 ghost use Rattle.hpke.specs.Mask.{mask_derive, mask_public};
 
 use super::{AeadCtx, AeadCtxR, AeadCtxS, derive_enc_ctx};
@@ -8,7 +8,7 @@ use crate::aead::{Aead, AesGcm256, BaseAead};
 use crate::error::HpkeError;
 use crate::kdf::HkdfSha256;
 use crate::kem::Kem;
-use crate::laws::opens_what_was_sealed;
+use crate::laws::{opens_what_was_sealed, registered_identifiers, seal_then_open};
 use crate::mask::{MaskKem, MaskKey};
 use crate::mode::{OpModeR, OpModeS};
 use crate::secret::{SecretSize, SharedSecret};
@@ -95,6 +95,12 @@ impl Aead for ShownAead {
     const AEAD_ID: u16 = 2;
 
     ghost AEAD_ID = { 2 };
+
+    ghost use Rattle.std.proofs.Common.{refl};
+
+    ghost aead = { record { key_size = 32; nonce_size = 12; aead_id = 2 } };
+
+    ghost aead_is = { refl };
 }
 
 // A KEM that is its identifier: its secret is zeros.
@@ -157,9 +163,15 @@ impl<const ID: u16> Kem for NamedKem<ID> {
         Ok((SharedSecret::new(&[0; 32]), encapped_key))
     }
 
-    ghost use Rattle.std.specs.Prelude.{length};
+    ghost use Rattle.std.specs.Prelude.{ℕ, List, length};
     ghost use Rattle.std.proofs.Common.{ap, refl, sym};
     ghost use Rattle.std.proofs.lemmas.Option.{same_Some};
+    ghost use Rattle.hpke.specs.MaskLaws.{mask_derive-pair};
+
+    ghost derive_pair = { mask_derive-pair };
+
+    ghost encap_size = { λ _ _ draw _ _ _ _ is.
+        ap (λ (made : List ℕ × List ℕ). length made.0) (sym (same_Some _ _ is)) };
 
     ghost decap_size = { λ _ _ _ _ _ _ is. ap length (sym (same_Some _ _ is)) };
 
@@ -229,18 +241,72 @@ fn contexts_of_mode_base(rt: HostRuntime) -> Result<(), Fail> {
     Ok(())
 }
 
-// The context that the schedule gives for this secret, over a KEM of this identifier.
-fn scheduled<const ID: u16>(alloc: Global, secret: &str, info: &str) -> Result<String, Fail> {
+// The context that the schedule gives in this mode for this secret, over a KEM of this identifier,
+// with a pre-shared key and its identity.
+fn scheduled<const ID: u16>(
+    alloc: Global,
+    mode: u8,
+    secret: &str,
+    info: &str,
+    psk: [&str; 2],
+) -> Result<String, Fail> {
     let secret = hex::decode(alloc, secret)?;
     let info = hex::decode(alloc, info)?;
+    let [psk, psk_id] = psk;
+    let psk = hex::decode(alloc, psk)?;
+    let psk_id = hex::decode(alloc, psk_id)?;
     let ctx: AeadCtx<ShownAead, HkdfSha256, NamedKem<ID>> = derive_enc_ctx(
-        0,
+        mode,
         secret.as_slice(),
         info.as_slice(),
-        &[],
-        &[],
+        psk.as_slice(),
+        psk_id.as_slice(),
     );
     shown(alloc, &ctx)
+}
+
+#[test]
+fn contexts_of_other_modes(rt: HostRuntime) -> Result<(), Fail> {
+    let cases = [
+        (
+            1,
+            0x0042,
+            "a7d156d27815fe31ec7e65819b58d71faf8398a1b42081dd7cb650bb346b391e",
+            "3f9f944cc5",
+            [
+                "5f0208862b7f2eb0125874ecd4781cd590273c7d2bc2a24f0c3abbd8295d1dfa",
+                "6fa8d29976ef12d27a",
+            ],
+            "47f35f3915803bf240eb27f3e218f94cff24ac868d4fad8f73267b01a6eeb7af da9a9a86da1322c219ea729f a1dea9e5599d32db643674ca829fc90f2f47a84f533b1b461a7fdc75fc28a6c9",
+        ),
+        (
+            2,
+            0x0041,
+            "9136a01ef97462087ffe4ba2c8ef6cc5f6a5a6bc16a8842c2b6633c528ae347d",
+            "06b0072aecd271f1ba520f9aea55620f1a205bc8bd52c0042d2a3eb6d54cb000347e9a0fedfead7b4284838598d050b1f1e92fe9f7b02e66dc5411aa494853d4bc606f0b4565",
+            ["", ""],
+            "866e6645e777fbcc00ecc25d769a9445a605aa6095add91321d6934c28d193cf 5f5b82f39038f0a3d92546c9 5004b552ad2b19fb337bd6b4056faf08e3d5cc12e6c729215d54f381f95c31cf",
+        ),
+        (
+            3,
+            0x0042,
+            "8604d6aefd24888b6ef250cd597c753bf7137113c8d111818287a27488df9152",
+            "dcc3be43b2",
+            [
+                "09f72b35577399081998c0739a8ba961ed631a640c175c7529670a73aeefe361",
+                "e78a7fca8cc6639afe",
+            ],
+            "5a95d4f29afc540edf083532c2ec8d88a8383bb989be0319ac0fdef6a8f27783 891c4bf9d9d3ab02121defbd 84a8a4fbb56d0077530881ca7ae29b5ae02cddf4ebcbc6ef73b87d4bdd5bd8ae",
+        ),
+    ];
+    for (mode, id, secret, info, psk, want) in cases {
+        let context = match id {
+            0x0041 => scheduled::<0x0041>(rt.alloc(), mode, secret, info, psk)?,
+            _ => scheduled::<0x0042>(rt.alloc(), mode, secret, info, psk)?,
+        };
+        assert_eq!(rt; context.as_str(), want);
+    }
+    Ok(())
 }
 
 #[test]
@@ -321,9 +387,9 @@ fn contexts_of_other_kems(rt: HostRuntime) -> Result<(), Fail> {
     ];
     for (id, secret, info, want) in cases {
         let context = match id {
-            0x0040 => scheduled::<0x0040>(rt.alloc(), secret, info)?,
-            0x0041 => scheduled::<0x0041>(rt.alloc(), secret, info)?,
-            _ => scheduled::<0x0042>(rt.alloc(), secret, info)?,
+            0x0040 => scheduled::<0x0040>(rt.alloc(), 0, secret, info, ["", ""])?,
+            0x0041 => scheduled::<0x0041>(rt.alloc(), 0, secret, info, ["", ""])?,
+            _ => scheduled::<0x0042>(rt.alloc(), 0, secret, info, ["", ""])?,
         };
         assert_eq!(rt; context.as_str(), want);
     }
@@ -335,7 +401,9 @@ type Sender = AeadCtxS<AesGcm256, HkdfSha256, MaskKem>;
 type Recipient = AeadCtxR<AesGcm256, HkdfSha256, MaskKem>;
 
 // The contexts of both sides under AES-256-GCM, for one secret and no info.
-fn both_sides(alloc: Global) -> Result<(Sender, Recipient), Fail> {
+fn both_sides(alloc: Global) -> Result<(Sender, Recipient), Fail>
+    ensures { IfOk result (λ sides. sides.0 ≡ sides.1) }
+{
     let secret = "250268e4f061962cf6e07f3b18dbd86314b0fe8a577d62f25ea78eb3fa6e5e0e";
     let key = MaskKey::from_bytes(alloc, hex::decode(alloc, secret)?.as_slice())?;
     let (encapped_key, sender) = setup_sender(
@@ -372,12 +440,43 @@ fn messages_in_order(rt: HostRuntime) -> Result<(), Fail> {
         recipient.open(alloc, first.as_slice(), b"")?.as_slice(),
         b"hello".as_slice()
     );
-    assert!(rt; recipient.open(alloc, first.as_slice(), b"").is_err());
+    for (sealed, aad) in [
+        (first.as_slice(), b"".as_slice()),
+        (second.as_slice(), b"adb"),
+    ] {
+        let forged = recipient.open(alloc, sealed, aad).err();
+        assert_eq!(rt; forged, Some(HpkeError::OpenError));
+    }
     assert_eq!(rt; recipient.number(), Some(1));
     assert_eq!(rt;
         recipient.open(alloc, second.as_slice(), b"aad")?.as_slice(),
         b"again".as_slice()
     );
+    Ok(())
+}
+
+#[test]
+fn sealed_then_opened(rt: HostRuntime) -> Result<(), Fail> {
+    let alloc = rt.alloc();
+    let (mut sender, mut recipient) = both_sides(alloc)?;
+    let text = seal_then_open(alloc, &mut sender, &mut recipient, b"hello", b"aad")?;
+    assert_eq!(rt; text.as_slice(), b"hello".as_slice());
+    assert_eq!(rt; sender.number(), Some(1));
+    assert_eq!(rt; recipient.number(), Some(1));
+    Ok(())
+}
+
+// An AEAD that seals nothing.
+#[test]
+fn a_text_that_cannot_be_sealed(rt: HostRuntime) -> Result<(), Fail> {
+    let alloc = rt.alloc();
+    registered_identifiers();
+    let key = MaskKey::from_bytes(alloc, &[9; 32])?;
+    let (_encapped_key, mut sender): (MaskKey, AeadCtxS<ShownAead, HkdfSha256, MaskKem>) =
+        setup_sender(alloc, &OpModeS::Base, &key, &[], &mut ConstantDraw::new(0))?;
+    let refused = sender.seal(alloc, b"text", b"").err();
+    assert_eq!(rt; refused, Some(HpkeError::SealError));
+    assert_eq!(rt; sender.number(), Some(0));
     Ok(())
 }
 

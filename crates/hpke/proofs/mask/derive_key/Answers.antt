@@ -17,5 +17,5 @@ pub returns : goal.returns
 returns c =
     c.copy_from_slice.ensures.after ∙ c.as_slice.ensures
     ∙ extracted_and_expanded sha256 64 32 c.args.ikm.now c.kem_suite_id-suite_id.result (kem_suite 0xFF00) (codes "dkp_prk") (codes "sk")
-    c.labeled_extract-prk.result.1 c.expand_short-key.result
-    c.kem_suite_id-suite_id.ensures c.labeled_extract-prk.ensures.hkdf c.expand_short-key.ensures.output
+    c.labeled_extract-prk.result.1 c.expand_short-short.result
+    c.kem_suite_id-suite_id.ensures c.labeled_extract-prk.ensures.hkdf c.expand_short-short.ensures.output
