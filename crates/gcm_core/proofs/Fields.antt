@@ -204,7 +204,7 @@ product_of-of_xor n r (suc k) a b c h hr hb hc =
     (product_of-next n r k a b) (product_of-next n r k a c) outer (picked-of_xor (a % 2) b c)
 
 -- a·(x·b) is x·(a·b)
-product_of-times_x : (n r k a b : ℕ) → 1 ≤ n → r < 2 ^ n → b < 2 ^ n → product_of n r k a (times_x n r b) ≡ times_x n r (product_of n r k a b)
+pub product_of-times_x : (n r k a b : ℕ) → 1 ≤ n → r < 2 ^ n → b < 2 ^ n → product_of n r k a (times_x n r b) ≡ times_x n r (product_of n r k a b)
 product_of-times_x n r zero a b h hr hb = rw (product_of-none n r a (times_x n r b), product_of-none n r a b) (sym (times_x-zero n r))
 product_of-times_x n r (suc k) a b h hr hb =
     let p : ℕ = product_of n r k (a / 2) b in
@@ -221,7 +221,7 @@ product_of-zero n r zero b = product_of-none n r 0 b
 product_of-zero n r (suc k) b =
     product_of-next n r k 0 b ∙ xor_zero_r (times_x n r (product_of n r k 0 b)) ∙ ap (times_x n r) (product_of-zero n r k b) ∙ times_x-zero n r
 
-product_of-more : (n r k a b : ℕ) → a < 2 ^ k → product_of n r (suc k) a b ≡ product_of n r k a b
+pub product_of-more : (n r k a b : ℕ) → a < 2 ^ k → product_of n r (suc k) a b ≡ product_of n r k a b
 product_of-more n r zero a b h =
     let e : a ≡ 0 = omega arith in
     rw e (product_of-zero n r 1 b ∙ sym (product_of-zero n r 0 b))
@@ -230,7 +230,7 @@ product_of-more n r (suc k) a b h =
     product_of-next n r (suc k) a b ∙ ap (λ (z : ℕ). bit_xor (times_x n r z) (picked (a % 2) b)) (product_of-more n r k (a / 2) b half) ∙ sym (product_of-next n r k a b)
 
 -- (x·a)·b, where a leaves room
-product_of-doubled : (n r k a b : ℕ) → product_of n r (suc k) (2 * a) b ≡ times_x n r (product_of n r k a b)
+pub product_of-doubled : (n r k a b : ℕ) → product_of n r (suc k) (2 * a) b ≡ times_x n r (product_of n r k a b)
 product_of-doubled n r k a b =
     let half : 2 * a / 2 ≡ a = omega arith in
     let even : 2 * a % 2 ≡ 0 = omega arith in

@@ -3,17 +3,17 @@ use Rattle.std.proofs.Common.{◌≡◌, ◌↔◌, ℕ, zero, suc, ◌+◌, ◌
 use Rattle.std.specs.Prelude.{Bool, true, false, bit_xor, if◌then◌else◌}
 use Rattle.std.specs.Int.{div_ceil, to_be_bytes, w64}
 use Rattle.std.proofs.lemmas.Bool.{cases_lt, false≢true}
-use Rattle.std.proofs.lemmas.Nat.{shr-shr}
+use Rattle.std.proofs.lemmas.Nat.{pow-add, pow_pos, shr-shr}
 use Rattle.std.proofs.lemmas.List.{append_assoc, drop-append-le, drop-drop, length-replicate, take-append-le, take_all, nil_from_length}
 use lib.Bits.{xor_assoc, xor_zero_r}
-use Rattle.gcm_core.proofs.Fields.{Reduces, picked, product_of-by_one, product_of-lt, product_of-of_xor, product_of-one, product_of_comm, product_of-next, product_of-xor, product_of-zero, product_of_assoc, times_x-high, times_x-low}
+use Rattle.gcm_core.proofs.Fields.{Reduces, picked, product_of-by_one, product_of-lt, product_of-of_xor, product_of-one, product_of_comm, product_of-more, product_of-next, product_of-xor, product_of-zero, product_of_assoc, times_x-high, times_x-low}
 use Rattle.gcm_core.specs.FieldMul.{product_of, times_x}
 use Rattle.gcm_core.specs.Gcm.{authenticated, padded}
 use Rattle.gcm_core.specs.Ghash.{block_power, block_product, continued, polynomial_of, polynomials, reduction_block, weighted_sum}
 
 -- ---- the field GF(2^128)
 
-reduces_block : Reduces 128 reduction_block
+pub reduces_block : Reduces 128 reduction_block
 unfolding product_of times_x
 reduces_block = record { some = omega arith; small = omega arith; at_one = refl }
 
@@ -21,7 +21,7 @@ pub block_product-lt : (a b : ℕ) → b < 2 ^ 128 → block_product a b < 2 ^ 1
 unfolding block_product
 block_product-lt a b h = product_of-lt 128 reduction_block 128 a b reduces_block.some reduces_block.small h
 
-block_product-xor : (a d b : ℕ) → b < 2 ^ 128 → block_product (bit_xor a d) b ≡ bit_xor (block_product a b) (block_product d b)
+pub block_product-xor : (a d b : ℕ) → b < 2 ^ 128 → block_product (bit_xor a d) b ≡ bit_xor (block_product a b) (block_product d b)
 unfolding block_product
 block_product-xor a d b h = product_of-xor 128 reduction_block 128 a d b reduces_block.some reduces_block.small h
 
@@ -42,11 +42,11 @@ pub block_product-one : (b : ℕ) → block_product 1 b ≡ b
 unfolding block_product
 block_product-one b = product_of-one 128 reduction_block 127 b
 
-block_product-by_one : (a : ℕ) → a < 2 ^ 128 → block_product a 1 ≡ a
+pub block_product-by_one : (a : ℕ) → a < 2 ^ 128 → block_product a 1 ≡ a
 unfolding block_product
 block_product-by_one a h = product_of-by_one 128 reduction_block 128 a (omega arith) h
 
-block_product-zero : (b : ℕ) → block_product 0 b ≡ 0
+pub block_product-zero : (b : ℕ) → block_product 0 b ≡ 0
 unfolding block_product
 block_product-zero b = product_of-zero 128 reduction_block 128 b
 
@@ -91,29 +91,45 @@ continued-append h y (x ∷ xs) ys l ly =
 
 -- ---- a product's loop
 
-product_of-step : (i a b prev t : ℕ) → i < 128 → prev ≡ product_of 128 reduction_block i (a / 2 ^ (128 - i)) b → t ≡ times_x 128 reduction_block prev
-    → bit_xor t (picked (a / 2 ^ (128 - (i + 1)) % 2) b) ≡ product_of 128 reduction_block (i + 1) (a / 2 ^ (128 - (i + 1))) b
-product_of-step i a b prev t lt held et =
-    let k : ℕ = 128 - (i + 1) in
-    let e : 128 - i ≡ k + 1 = omega arith in
-    let half : a / 2 ^ k / 2 ≡ a / 2 ^ (128 - i) = rw e (shr-shr a k 1) in
+product_of-step : (m i a b prev t : ℕ) → i < m → prev ≡ product_of 128 reduction_block i (a / 2 ^ (m - i)) b → t ≡ times_x 128 reduction_block prev
+    → bit_xor t (picked (a / 2 ^ (m - (i + 1)) % 2) b) ≡ product_of 128 reduction_block (i + 1) (a / 2 ^ (m - (i + 1))) b
+product_of-step m i a b prev t lt held et =
+    let k : ℕ = m - (i + 1) in
+    let e : m - i ≡ k + 1 = omega arith in
+    let half : a / 2 ^ k / 2 ≡ a / 2 ^ (m - i) = rw e (shr-shr a k 1) in
     let inner : t ≡ times_x 128 reduction_block (product_of 128 reduction_block i (a / 2 ^ k / 2) b) = et ∙ ap (times_x 128 reduction_block) (held ∙ rw half refl) in
     ap (λ (z : ℕ). bit_xor z (picked (a / 2 ^ k % 2) b)) inner ∙ sym (product_of-next 128 reduction_block i (a / 2 ^ k) b) ∙ rw (add-one i) refl
 
 -- by a choice on the bit
-pub product_of-chosen : (odd : Bool) (i a b prev t out : ℕ) → i < 128 → prev ≡ product_of 128 reduction_block i (a / 2 ^ (128 - i)) b → t ≡ times_x 128 reduction_block prev
-    → IsTrue odd ↔ (a / 2 ^ (127 - i) % 2 ≡ 1) → out ≡ (if odd then bit_xor t b else t) → out ≡ product_of 128 reduction_block (i + 1) (a / 2 ^ (128 - (i + 1))) b
-product_of-chosen true i a b prev t out lt held et bit eo =
-    let e : 127 - i ≡ 128 - (i + 1) = omega arith in
-    let is : a / 2 ^ (128 - (i + 1)) % 2 ≡ 1 = rw e at (bit.0 refl) in
-    eo ∙ (rw is at (product_of-step i a b prev t lt held et))
-product_of-chosen false i a b prev t out lt held et bit eo =
-    let e : 127 - i ≡ 128 - (i + 1) = omega arith in
-    let even : a / 2 ^ (127 - i) % 2 ≡ 0 = by_parity (a / 2 ^ (127 - i)) (λ h. false≢true (bit.1 h)) in
-    eo ∙ sym (xor_zero_r t) ∙ (rw (rw e at even) at (product_of-step i a b prev t lt held et))
+pub product_of-chosen : (odd : Bool) (m k i a b prev t out : ℕ) → i < m → k ≡ m - (i + 1) → prev ≡ product_of 128 reduction_block i (a / 2 ^ (m - i)) b → t ≡ times_x 128 reduction_block prev
+    → IsTrue odd ↔ (a / 2 ^ k % 2 ≡ 1) → out ≡ (if odd then bit_xor t b else t) → out ≡ product_of 128 reduction_block (i + 1) (a / 2 ^ (m - (i + 1))) b
+product_of-chosen true m k i a b prev t out lt e held et bit eo =
+    let is : a / 2 ^ (m - (i + 1)) % 2 ≡ 1 = rw e at (bit.0 refl) in
+    eo ∙ (rw is at (product_of-step m i a b prev t lt held et))
+product_of-chosen false m k i a b prev t out lt e held et bit eo =
+    let even : a / 2 ^ k % 2 ≡ 0 = by_parity (a / 2 ^ k) (λ h. false≢true (bit.1 h)) in
+    eo ∙ sym (xor_zero_r t) ∙ (rw (rw e at even) at (product_of-step m i a b prev t lt held et))
   where
     by_parity : (n : ℕ) → (n % 2 ≡ 1 → ⊥) → n % 2 ≡ 0
     by_parity n h = elim (cases_lt (n % 2) 1) [ inl l ↦ omega arith | inr g ↦ absurd (h (omega arith)) ]
+
+grown : (a p q : ℕ) → 0 < p → a < q → a < p * q
+grown a p q h l = grind arith
+
+-- a factor of few coefficients takes as few steps
+pub product_of-few : (j k a b : ℕ) → a < 2 ^ k → product_of 128 reduction_block (j + k) a b ≡ product_of 128 reduction_block k a b
+product_of-few zero k a b h =
+    let z : 0 + k ≡ k = omega arith in
+    rw z refl
+product_of-few (suc j) k a b h =
+    let z : suc j + k ≡ suc (j + k) = omega arith in
+    rw z (product_of-more 128 reduction_block (j + k) a b (wide j k h) ∙ product_of-few j k a b h)
+  where
+    wide : (j k : ℕ) → a < 2 ^ k → a < 2 ^ (j + k)
+    wide j k l =
+        let e : 2 ^ (j + k) ≡ 2 ^ j * 2 ^ k = pow-add 2 j k in
+        let p : 0 < 2 ^ j = pow_pos j in
+        rw e (grown a (2 ^ j) (2 ^ k) p l)
 
 -- x·p by a choice on the highest coefficient
 pub times_x-chosen : (passes : Bool) (p lo out : ℕ) → p < 2 ^ 128 → IsTrue passes ↔ (p / 2 ^ 127 % 2 ≡ 1) → lo ≡ p * 2 % 2 ^ 128 → out ≡ (if passes then bit_xor lo reduction_block else lo)

@@ -9,3 +9,5 @@ pub mod SealingLaws
 pub mod Lanes
 pub mod HalfBytes
 pub mod Rounds
+pub mod Shifts
+pub mod Sums

@@ -10,3 +10,5 @@ pub mod Gcm
 pub mod Nibbles
 -- counter blocks further on, which private functions compute
 pub mod Counters
+-- products by rows, which private functions compute
+pub mod Rows

@@ -10,6 +10,7 @@ ghost use Rattle.gcm_core.specs.Ghash.{polynomial_of};
 use crate::aes::{BLOCK_LEN, Block, cipher, cipher_four};
 use crate::error::{NotAuthentic, TooLong};
 use crate::ghash::{ghash, polynomial_of};
+use crate::hash_key::HashKey;
 use ct_choice::Choice;
 use std::simd::prelude::*;
 
@@ -153,14 +154,14 @@ fn gctr(round_keys: &[u8], icb: Block, text: &mut [u8])
     gctr_rest(round_keys, counter, rest);
 }
 
-fn tag_of(round_keys: &[u8], subkey: u128, nonce: &Nonce, aad: &[u8], text: &[u8]) -> Tag
+fn tag_of(round_keys: &[u8], key: &HashKey, nonce: &Nonce, aad: &[u8], text: &[u8]) -> Tag
     requires schedule { 32 ≤ length round_keys.now }
-    requires subkey { subkey ≡ polynomial_of (cipher round_keys.now (replicate 16 0)) }
+    requires subkey { key.now ≡ polynomial_of (cipher round_keys.now (replicate 16 0)) }
     requires aad { length aad.now < 2 ^ 61 }
     requires text { length text.now < 2 ^ 61 }
     ensures { result ≡ tag_of (cipher round_keys.now) nonce.now aad.now text.now }
 {
-    let mut tag = ghash(subkey, aad, text);
+    let mut tag = ghash(key, aad, text);
     gctr(round_keys, start_block(nonce), &mut tag);
     tag
 }
@@ -186,14 +187,14 @@ fn is_within_limits(aad: &[u8], text: &[u8]) -> bool
 // Seals the text in `buf` in place, and writes its tag.
 pub(crate) fn seal(
     round_keys: &[u8],
-    subkey: u128,
+    key: &HashKey,
     nonce: &Nonce,
     aad: &[u8],
     buf: &mut [u8],
     tag: &mut Tag,
 ) -> Result<(), TooLong>
     requires schedule { 32 ≤ length round_keys.now }
-    requires subkey { subkey ≡ polynomial_of (cipher round_keys.now (replicate 16 0)) }
+    requires subkey { key.now ≡ polynomial_of (cipher round_keys.now (replicate 16 0)) }
     ensures sealed { OnOk result
         (gcm_ae (cipher round_keys.now) nonce.now aad.now buf.old ≡ Some (buf.new ++ tag.new)) }
     ensures refused { IsErr result
@@ -205,21 +206,21 @@ pub(crate) fn seal(
         return Err(TooLong);
     }
     gctr(round_keys, text_start(nonce), buf);
-    *tag = tag_of(round_keys, subkey, nonce, aad, buf);
+    *tag = tag_of(round_keys, key, nonce, aad, buf);
     Ok(())
 }
 
 // Opens the ciphertext in `buf` in place, if `tag` is its tag.
 pub(crate) fn open(
     round_keys: &[u8],
-    subkey: u128,
+    key: &HashKey,
     nonce: &Nonce,
     aad: &[u8],
     buf: &mut [u8],
     tag: &Tag,
 ) -> Result<(), NotAuthentic>
     requires schedule { 32 ≤ length round_keys.now }
-    requires subkey { subkey ≡ polynomial_of (cipher round_keys.now (replicate 16 0)) }
+    requires subkey { key.now ≡ polynomial_of (cipher round_keys.now (replicate 16 0)) }
     ensures opened { OnOk result
         (gcm_ad (cipher round_keys.now) nonce.now aad.now (buf.old ++ tag.now) ≡ Some buf.new) }
     ensures refused { IsErr result
@@ -231,7 +232,7 @@ pub(crate) fn open(
     if !is_within_limits(aad, buf) {
         return Err(NotAuthentic);
     }
-    let expected = tag_of(round_keys, subkey, nonce, aad, buf);
+    let expected = tag_of(round_keys, key, nonce, aad, buf);
     if !is_same_tag(tag, &expected) {
         return Err(NotAuthentic);
     }

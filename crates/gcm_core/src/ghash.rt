@@ -7,6 +7,7 @@ ghost use Rattle.gcm_core.specs.Gcm.{authenticated, padded};
 ghost use Rattle.gcm_core.specs.Ghash.{block_of, block_product, continued, polynomial_of, polynomials, reduction_block, weighted_sum};
 
 use crate::aes::{BLOCK_LEN, Block};
+use crate::hash_key::HashKey;
 use ct_choice::Choice;
 
 // The coefficients of an element of GF(2^128).
@@ -28,14 +29,15 @@ fn times_x(p: u128) -> u128
     passes.select_u128(p << 1, (p << 1) ^ REDUCTION)
 }
 
-// From the highest coefficient of `a` down.
-fn block_product(a: u128, b: u128) -> u128
+// The product of a byte, from its highest coefficient down.
+pub(crate) fn byte_times(a: u128, b: u128) -> u128
+    requires { a < 256 }
     ensures { result ≡ block_product a b }
 {
     let mut product = 0;
-    for i in 0..DEGREE {
+    for i in 0..BYTE_BITS as u32 {
         let sum = times_x(product);
-        let odd = Choice::from_u128_lsb(a >> (DEGREE - 1 - i));
+        let odd = Choice::from_u128_lsb(a >> (BYTE_BITS as u32 - 1 - i));
         product = odd.select_u128(sum, sum ^ b);
     }
     product
@@ -55,10 +57,11 @@ fn block_of(polynomial: u128) -> Block
 }
 
 // One block more, by Horner's rule.
-fn absorb_block(subkey: u128, sum: u128, block: Block) -> u128
-    ensures { result ≡ block_product (bit_xor sum (polynomial_of block)) subkey }
+fn absorb_block(key: &HashKey, sum: u128, block: Block) -> u128
+    ensures sum { result ≡ block_product (bit_xor sum (polynomial_of block)) key.now }
+    ensures within { key.now < 2 ^ 128 }
 {
-    block_product(sum ^ polynomial_of(block), subkey)
+    key.times(sum ^ polynomial_of(block))
 }
 
 // The block of the bytes from `start` on, with zeros behind a short one.
@@ -75,13 +78,13 @@ fn padded_block(bytes: &[u8], start: usize) -> Block
 }
 
 // The blocks of the padded bytes, after those that gave the sum `earlier`.
-fn absorb(subkey: u128, earlier: u128, bytes: &[u8]) -> u128
-    ensures { result ≡ continued subkey earlier
+fn absorb(key: &HashKey, earlier: u128, bytes: &[u8]) -> u128
+    ensures { result ≡ continued key.now earlier
         (polynomials (div_ceil (length bytes.now) 16) (padded bytes.now)) }
 {
     let mut sum = earlier;
     for i in 0..bytes.len().div_ceil(BLOCK_LEN) {
-        sum = absorb_block(subkey, sum, padded_block(bytes, BLOCK_LEN * i));
+        sum = absorb_block(key, sum, padded_block(bytes, BLOCK_LEN * i));
     }
     sum
 }
@@ -99,12 +102,12 @@ fn length_block(aad_len: usize, text_len: usize) -> Block
 }
 
 // GHASH, under the polynomial of the hash subkey, of all that a tag authenticates.
-pub(crate) fn ghash(subkey: u128, aad: &[u8], text: &[u8]) -> Block
+pub(crate) fn ghash(key: &HashKey, aad: &[u8], text: &[u8]) -> Block
     requires aad { length aad.now < 2 ^ 61 }
     requires text { length text.now < 2 ^ 61 }
     ensures { let x = authenticated aad.now text.now
-        in result ≡ block_of (weighted_sum subkey (polynomials (length x / 16) x)) }
+        in result ≡ block_of (weighted_sum key.now (polynomials (length x / 16) x)) }
 {
-    let sum = absorb(subkey, absorb(subkey, 0, aad), text);
-    block_of(absorb_block(subkey, sum, length_block(aad.len(), text.len())))
+    let sum = absorb(key, absorb(key, 0, aad), text);
+    block_of(absorb_block(key, sum, length_block(aad.len(), text.len())))
 }

@@ -8,6 +8,7 @@ ghost use Rattle.gcm_core.specs.Ghash.{polynomial_of};
 use crate::aes::expand_key;
 use crate::error::{NotAuthentic, TooLong};
 use crate::gcm::{hash_subkey, open, seal};
+use crate::hash_key::HashKey;
 use std::marker::Model;
 
 // What GCM keeps of a key: N bytes of round keys, which are the key's length times 4 and 112 more,
@@ -15,7 +16,7 @@ use std::marker::Model;
 #[derive(Drop)]
 pub(crate) struct Keyed<const N: usize> {
     round_keys: [u8; N],
-    subkey: u128,
+    hash_key: HashKey,
 }
 
 impl<const N: usize> Model for Keyed<N> {
@@ -24,7 +25,7 @@ impl<const N: usize> Model for Keyed<N> {
     ghost view = { λ s. take ((N - 112) / 4) s.round_keys };
 
     ghost invariant = { λ s. (s.round_keys ≡ key_expansion (take ((N - 112) / 4) s.round_keys))
-        × (s.subkey ≡ polynomial_of (aes (take ((N - 112) / 4) s.round_keys) (replicate 16 0)))
+        × (s.hash_key ≡ polynomial_of (aes (take ((N - 112) / 4) s.round_keys) (replicate 16 0)))
         × (176 ≤ N) };
 }
 
@@ -39,8 +40,11 @@ impl<const N: usize> Keyed<N> {
     {
         let mut round_keys = [0; N];
         expand_key(key, &mut round_keys);
-        let subkey = hash_subkey(&round_keys);
-        Keyed { round_keys, subkey }
+        let hash_key = HashKey::new(hash_subkey(&round_keys));
+        Keyed {
+            round_keys,
+            hash_key,
+        }
     }
 
     // GCM-AE in place (section 7.1).
@@ -58,7 +62,7 @@ impl<const N: usize> Keyed<N> {
             ↔ ((2 ^ 36 - 32 < length buf.old) ⊎ (2 ^ 60 < length aad.now)) }
         ensures unchanged { OnErr result ((buf.new ≡ buf.old) × (tag.new ≡ tag.old)) }
     {
-        seal(&self.round_keys, self.subkey, nonce, aad, buf, tag)
+        seal(&self.round_keys, &self.hash_key, nonce, aad, buf, tag)
     }
 
     // GCM-AD in place (section 7.2).
@@ -78,6 +82,6 @@ impl<const N: usize> Keyed<N> {
             ⊎ (tag.now ≢ tag_of (aes self.now) nonce.now aad.now buf.old)) }
         ensures unchanged { OnErr result (buf.new ≡ buf.old) }
     {
-        open(&self.round_keys, self.subkey, nonce, aad, buf, tag)
+        open(&self.round_keys, &self.hash_key, nonce, aad, buf, tag)
     }
 }

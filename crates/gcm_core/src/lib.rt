@@ -7,6 +7,7 @@ mod aes_gcm;
 mod error;
 mod gcm;
 mod ghash;
+mod hash_key;
 mod keyed;
 pub mod laws;
 mod nibbles;

@@ -55,17 +55,17 @@ const AFFINE: u8 = 0x63;
 const AFFINE_TWICE: u8 = 0xc6;
 
 // The bits of a half byte, and what they leave of a byte.
-const HALF_BITS: u8 = 4;
+pub(crate) const HALF_BITS: u8 = 4;
 
-const LOW_HALF: u8 = 0x0f;
+pub(crate) const LOW_HALF: u8 = 0x0f;
 
 // The entry at each place below 16; 0 at each place from 128 on.
 #[inline(always)]
-fn look_up(table: [u8; 16], places: u8x16) -> u8x16
+pub(crate) fn look_up(table: u8x16, places: u8x16) -> u8x16
     requires { Each1 (λ place. IsTrue (is_place place)) places }
     ensures { result ≡ map (entry_of table) places }
 {
-    u8x16::from_array(table).swizzle_dyn(places)
+    table.swizzle_dyn(places)
 }
 
 // The S-box of each byte, and its double in GF(2^8).
@@ -75,15 +75,26 @@ pub(crate) fn substitutes(s: u8x16) -> (u8x16, u8x16)
 {
     let low_half = u8x16::splat(LOW_HALF);
     let half_bits = u8x16::splat(HALF_BITS);
-    let t = look_up(TO_LOW, s & low_half) ^ look_up(TO_HIGH, s >> half_bits);
+    let t = look_up(u8x16::from_array(TO_LOW), s & low_half)
+        ^ look_up(u8x16::from_array(TO_HIGH), s >> half_bits);
     let k = t & low_half;
     let i = t >> half_bits;
     let j = i ^ k;
-    let r = look_up(SCALED, k);
-    let p = look_up(RECIPROCAL, look_up(RECIPROCAL, i) ^ r) ^ j;
-    let q = look_up(RECIPROCAL, look_up(RECIPROCAL, j) ^ r) ^ i;
+    let r = look_up(u8x16::from_array(SCALED), k);
+    let p = look_up(
+        u8x16::from_array(RECIPROCAL),
+        look_up(u8x16::from_array(RECIPROCAL), i) ^ r,
+    ) ^ j;
+    let q = look_up(
+        u8x16::from_array(RECIPROCAL),
+        look_up(u8x16::from_array(RECIPROCAL), j) ^ r,
+    ) ^ i;
     (
-        look_up(FIRST, p) ^ look_up(SECOND, q) ^ u8x16::splat(AFFINE),
-        look_up(FIRST_TWICE, p) ^ look_up(SECOND_TWICE, q) ^ u8x16::splat(AFFINE_TWICE),
+        look_up(u8x16::from_array(FIRST), p)
+            ^ look_up(u8x16::from_array(SECOND), q)
+            ^ u8x16::splat(AFFINE),
+        look_up(u8x16::from_array(FIRST_TWICE), p)
+            ^ look_up(u8x16::from_array(SECOND_TWICE), q)
+            ^ u8x16::splat(AFFINE_TWICE),
     )
 }

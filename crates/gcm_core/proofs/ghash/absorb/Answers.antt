@@ -8,12 +8,12 @@ pub loop-i-preserved : goal.loop-i-preserved
 loop-i-preserved c =
     let m : ℕ = div_ceil (length c.args.bytes.now) 16 in (
       omega (arith, c.absorb_block-sum.type_inv),
-      continued-step c.args.subkey c.loop-i.sum c.absorb_block-sum.result c.loop-i.i m (padded c.args.bytes.now) c.padded_block.result (omega arith) (omega arith)
-          c.padded_block.ensures c.absorb_block-sum.ensures
+      continued-step c.args.key.now c.loop-i.sum c.absorb_block-sum.result c.loop-i.i m (padded c.args.bytes.now) c.padded_block.result c.absorb_block-sum.ensures.within (omega arith)
+          c.padded_block.ensures c.absorb_block-sum.ensures.sum
           ∙ c.loop-i.invariant.1,
     )
 
 pub returns : goal.returns
 returns c =
-    sym (continued-done c.args.subkey c.loop-i.sum c.loop-i.i (div_ceil (length c.args.bytes.now) 16) (padded c.args.bytes.now) c.loop-i.invariant.0 (omega arith))
+    sym (continued-done c.args.key.now c.loop-i.sum c.loop-i.i (div_ceil (length c.args.bytes.now) 16) (padded c.args.bytes.now) c.loop-i.invariant.0 (omega arith))
     ∙ c.loop-i.invariant.1

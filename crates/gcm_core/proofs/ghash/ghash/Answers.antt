@@ -6,5 +6,5 @@ use Rattle.gcm_core.proofs.ghash.ghash.Goals as goal
 pub returns : goal.returns
 returns c =
     c.block_of.ensures
-    ∙ ap block_of (continued-authenticated c.args.subkey c.absorb.result c.absorb-sum.result c.absorb_block.result c.args.aad.now c.args.text.now c.length_block.result
-    (omega arith) c.absorb.ensures c.absorb-sum.ensures c.length_block.ensures (omega (arith, c.absorb-sum.type_inv)) c.absorb_block.ensures)
+    ∙ ap block_of (continued-authenticated c.args.key.now c.absorb.result c.absorb-sum.result c.absorb_block.result c.args.aad.now c.args.text.now c.length_block.result
+    c.absorb_block.ensures.within c.absorb.ensures c.absorb-sum.ensures c.length_block.ensures (omega (arith, c.absorb-sum.type_inv)) c.absorb_block.ensures.sum)

@@ -12,7 +12,7 @@ invariant_of-result g c =
     let n : (g.row.N - 112) / 4 ≡ length key = omega arith in
     let front : key ≡ take ((g.row.N - 112) / 4) w = sym (ap (λ (m : ℕ). take m w) n ∙ take-expanded key w c.expand_key.ensures) in (
       c.expand_key.ensures ∙ ap key_expansion front,
-      c.hash_subkey-subkey.ensures ∙ ap (λ (f : List ℕ → List ℕ). polynomial_of (f zeros)) (cipher-aes key w c.expand_key.ensures)
+      c.«new-hash_key».ensures ∙ c.hash_subkey.ensures ∙ ap (λ (f : List ℕ → List ℕ). polynomial_of (f zeros)) (cipher-aes key w c.expand_key.ensures)
           ∙ ap (λ (k : List ℕ). polynomial_of (aes k zeros)) front,
       omega arith,
     )

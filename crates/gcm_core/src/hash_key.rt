@@ -1,0 +1,138 @@
+// The hash subkey of GHASH with rows of its products, which are looked up in registers, so that no
+// address depends on a text.
+//
+// A product is the sum, over the bytes of one factor, of each byte's product with the subkey, moved up
+// by the byte's place. Row b holds byte b of the products of the 16 low half bytes, and then of the 16
+// high ones; looked up at all bytes of the factor together it gives byte b of each byte's product.
+
+ghost use Rattle.std.specs.Prelude.{◌≡◌, ◌+◌, ◌*◌, ◌^◌, ◌<◌, ℕ, length, map, slice_index};
+ghost use Rattle.std.specs.Simd.Lanes.{Each1, number_l};
+ghost use Rattle.gcm_core.specs.Ghash.{block_product};
+ghost use Rattle.gcm_core.specs.Rows.{IsRows, byte_of, factor_of, row_at};
+
+use crate::aes::BLOCK_LEN;
+use crate::ghash::byte_times;
+use crate::nibbles::{HALF_BITS, LOW_HALF, look_up};
+use std::marker::Model;
+use std::simd::prelude::*;
+
+// The factors of a row: 16 low half bytes and 16 high ones.
+const HALVES: usize = 16;
+
+const ROW_LEN: usize = 2 * HALVES;
+
+// One row for each byte of a product.
+const ROWS_LEN: usize = BLOCK_LEN * ROW_LEN;
+
+// What the upper half of a product is worth.
+const WORD: u128 = 1 << 64;
+
+// The hash subkey. Contracts see it as its polynomial.
+#[derive(Drop)]
+pub(crate) struct HashKey {
+    subkey: u128,
+    rows: [u8; ROWS_LEN],
+}
+
+impl Model for HashKey {
+    ghost use Rattle.std.specs.Prelude.{◌<◌, ◌^◌, ℕ};
+    ghost use Rattle.gcm_core.specs.Rows.{IsRows};
+
+    ghost Value = { ℕ };
+
+    ghost view = { λ s. s.subkey };
+
+    ghost invariant = { λ s. IsRows s.subkey s.rows × (s.subkey < 2 ^ 128) };
+}
+
+// The factor of a place in a row.
+fn factor(place: usize) -> u128
+    requires { place < 32 }
+    ensures value { result ≡ factor_of place }
+    ensures small { result < 256 }
+{
+    if place < HALVES {
+        place as u128
+    } else {
+        (HALVES * (place - HALVES)) as u128
+    }
+}
+
+// Writes a product to one place of all rows.
+fn write_column(rows: &mut [u8; ROWS_LEN], place: usize, product: u128)
+    requires { place < 32 }
+    ensures written { (b : ℕ) → b < 16 → slice_index rows.new (32 * b + place) ≡ byte_of b product }
+    ensures others { (b other : ℕ) → b < 16 → other < place → slice_index rows.new (32 * b + other) ≡ slice_index rows.old (32 * b + other) }
+{
+    let bytes = product.to_le_bytes();
+    for b in 0..BLOCK_LEN {
+        rows[ROW_LEN * b + place] = bytes[b];
+    }
+}
+
+// A number as the lanes of its bytes, the lowest first.
+#[inline(always)]
+fn lanes_of(n: u128) -> u8x16
+    ensures number { number_l 256 result ≡ n }
+    ensures bytes { Each1 (λ x. x < 256) result }
+    ensures size { length result ≡ 16 }
+{
+    u64x2::from_array([(n % WORD) as u64, (n / WORD) as u64]).to_le_bytes()
+}
+
+// The number of the bytes in lanes, the lowest first.
+#[inline(always)]
+fn number_of(lanes: u8x16) -> u128
+    ensures { result ≡ number_l 256 lanes }
+{
+    let words = u64x2::from_le_bytes(lanes).to_array();
+    words[1] as u128 * WORD + words[0] as u128
+}
+
+// What a row gives of all bytes of a factor.
+#[inline(always)]
+fn row_sum(rows: &[u8; ROWS_LEN], b: usize, lanes: u8x16) -> u128
+    requires { b < 16 }
+    ensures { result ≡ number_l 256 (map (row_at rows.now b) lanes) }
+{
+    let start = ROW_LEN * b;
+    let low = look_up(
+        u8x16::from_slice(&rows[start..]),
+        lanes & u8x16::splat(LOW_HALF),
+    );
+    let high = look_up(
+        u8x16::from_slice(&rows[start + HALVES..]),
+        lanes >> u8x16::splat(HALF_BITS),
+    );
+    number_of(low ^ high)
+}
+
+impl HashKey {
+    // The rows of a subkey.
+    pub fn new(subkey: u128) -> HashKey
+        ensures { result ≡ subkey }
+    {
+        let mut rows = [0; ROWS_LEN];
+        for place in 0..ROW_LEN {
+            write_column(&mut rows, place, byte_times(factor(place), subkey));
+        }
+        HashKey { subkey, rows }
+    }
+
+    // The product of an element and the subkey. The rows are added by Horner's rule into a number of
+    // two parts; x^128 is x^7 + x^2 + x + 1.
+    pub fn times(&self, element: u128) -> u128
+        ensures product { result ≡ block_product element self.now }
+        ensures within { self.now < 2 ^ 128 }
+    {
+        let lanes = lanes_of(element);
+        let mut low = row_sum(&self.rows, BLOCK_LEN - 1, lanes);
+        let mut high: u128 = 0;
+        for j in 0..BLOCK_LEN - 1 {
+            let row = row_sum(&self.rows, BLOCK_LEN - 2 - j, lanes);
+            high = (high << 8) ^ (low >> 120);
+            low = (low << 8) ^ row;
+        }
+        low ^ (high ^ ((high << 1) ^ ((high << 2) ^ (high << 7))))
+    }
+}
