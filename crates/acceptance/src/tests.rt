@@ -7,6 +7,7 @@ use hpke::{
     AeadCtxS, AesGcm256, Deserializable, HkdfSha256, MaskKem, MaskKey, OpModeS, Serializable,
     setup_sender,
 };
+use kem_mail::laws::{headline, headline_over_memory};
 use kem_mail::{MailError, mail_main, open_with};
 use rand_chacha::ChaCha20Rng;
 use rand_core::SeedableRng;
@@ -501,9 +502,14 @@ fn a_mail_opens_over_the_test_kem(rt: HostRuntime) -> Result<(), Fail> {
     let key = MaskKey::from_bytes(rt.alloc(), &[1; 32])
         .ok()
         .ok_or("32 bytes are a key")?;
-    for (budget, want) in [(60, Ok(0)), (59, Err(MailError::NotMail))] {
-        let mut src = CleanSource::new(input(rt.alloc(), 0, PLAIN)?);
-        let opened = open_with::<MaskKem, HkdfSha256, AesGcm256, CleanSource>(
+    for (budget, fail_at, want) in [
+        (60, [].as_slice(), Ok(0)),
+        (59, &[], Err(MailError::NotMail)),
+        (60, &[0], Err(MailError::ReadFault)),
+    ] {
+        let fail_at = Vec::from_slice(rt.alloc(), fail_at)?;
+        let mut src = MemSource::new(input(rt.alloc(), 0, PLAIN)?, WHOLE, fail_at);
+        let opened = open_with::<MaskKem, HkdfSha256, AesGcm256, MemSource>(
             rt.alloc(),
             &key,
             b"info",
@@ -519,5 +525,29 @@ fn a_mail_opens_over_the_test_kem(rt: HostRuntime) -> Result<(), Fail> {
             Err(error) => assert_eq!(rt; Err(error), want),
         }
     }
+    Ok(())
+}
+
+#[test]
+fn runs_that_are_laws_are_runs(rt: HostRuntime) -> Result<(), Fail> {
+    let message = MESSAGES[0].1;
+    let want = MESSAGES[0].3;
+    let words = owned(rt.alloc(), &OPEN)?;
+
+    let mut src = MemSource::new(
+        Vec::from_slice(rt.alloc(), message)?,
+        7,
+        Vec::new(rt.alloc()),
+    );
+    let mut out = MemSink::new(rt.alloc(), Vec::new(rt.alloc()));
+    let status = headline(rt.alloc(), &words, &mut src, &mut out);
+    assert_eq!(rt; status, 0);
+    assert_eq!(rt; out.bytes(), want);
+
+    let mut src = CleanSource::new(Vec::from_slice(rt.alloc(), message)?);
+    let mut out = MemSink::new(rt.alloc(), Vec::new(rt.alloc()));
+    let status = headline_over_memory(rt.alloc(), &words, &mut src, &mut out);
+    assert_eq!(rt; status, 0);
+    assert_eq!(rt; out.bytes(), want);
     Ok(())
 }

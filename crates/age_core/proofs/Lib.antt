@@ -4,3 +4,6 @@ pub mod Lines
 pub mod Stanzas
 pub mod Readings
 pub mod Steps
+pub mod Sights
+pub mod Fronts
+pub mod Completions

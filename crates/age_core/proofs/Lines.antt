@@ -52,7 +52,7 @@ no_feed_at [] e k h = absurd (omega (arith, h))
 no_feed_at (x ∷ xs) e zero h = eqb-false x 10 (or_parts (eqb x 10) _ e).0 h
 no_feed_at (x ∷ xs) e (suc k) h = no_feed_at xs (or_parts (eqb x 10) _ e).1 k h
 
-character : (k : ℕ) → slice_index alphabet k ≢ 10
+pub character : (k : ℕ) → slice_index alphabet k ≢ 10
 character k = no_feed_at alphabet refl k
 
 base64_no_feed : (bytes : List ℕ) → NoFeed (base64 bytes)
@@ -107,7 +107,7 @@ spells_last line bs before bytes whole rest is len same =
       text_is = rw (last, ← same.1, is) (sym (append_assoc (base64 bytes) (10 ∷ []) bs));
     }
 
-IsBytes-take : (n : ℕ) (bytes : List ℕ) → IsBytes bytes → IsBytes (take n bytes)
+pub IsBytes-take : (n : ℕ) (bytes : List ℕ) → IsBytes bytes → IsBytes (take n bytes)
 IsBytes-take zero bytes h i = omega arith
 IsBytes-take (suc n) [] h i = omega arith
 IsBytes-take (suc n) (b ∷ bytes) h zero = h 0

@@ -122,7 +122,7 @@ module _ (engine : GeneralPurpose) (text behind : List ℕ) (starts : bytes_eq (
 -- ---- what the readings rest on, whatever the engine
 
 -- an engine of the alphabet
-standard_is : IsLineEngine standard_no_pad
+pub standard_is : IsLineEngine standard_no_pad
 standard_is = (refl, (refl, refl, refl))
 
 pub the_same_stanza : (s t : Stanza) (more rest : List ℕ) → IsStanza s → IsStanza t → spelling s ++ more ≡ spelling t ++ rest → (s ≡ t) × (more ≡ rest)

@@ -1,17 +1,13 @@
 -- The words of a header line: what is read spells them, and what spells them is read.
-use Rattle.std.proofs.Common.{◌≡◌, ◌≢◌, ℕ, ◌≤◌, true, cond, eqb, leb, List, [], ◌∷◌, ◌++◌, length, Some, None, refl, sym, ap, ◌∙◌, append_assoc, inl, inr}
+use Rattle.std.proofs.Common.{◌≡◌, ◌≢◌, ℕ, true, cond, eqb, leb, List, [], ◌∷◌, ◌++◌, length, Some, None, refl, sym, ap, ◌∙◌, append_assoc, inl, inr}
 use Rattle.std.specs.List.{flat_map, AllByRecursion}
 use Rattle.std.proofs.lemmas.Bool.{leb-true, le-leb, and_parts, and_from, eqb-true}
 use Rattle.std.proofs.lemmas.List.{append-nil}
 use Rattle.std.proofs.lemmas.List.Concat.{flat_map-append}
-use Rattle.age_core.specs.Stanza.{IsArbitraryString}
+use Rattle.age_core.specs.Stanza.{IsVisible, IsArbitraryString}
 use Rattle.age_core.specs.Scan.{is_visible, words_from}
 use Rattle.std.proofs.lemmas.Option.{none-some}
 use Rattle.age_core.proofs.Cases.{chosen, length_not_zero, not_nil, some_parts}
-
--- a byte of a tag or an argument
-abbrev pub IsVisible : ℕ → Type 0
-IsVisible b = (33 ≤ b) × (b ≤ 126)
 
 pub visible_passes : (b : ℕ) → IsVisible b → is_visible b ≡ true
 visible_passes b h = and_from _ _ (le-leb 33 b h.0) (le-leb b 126 h.1)
@@ -40,7 +36,7 @@ pub joined-push : (words : List (List ℕ)) (word : List ℕ) → joined (words 
 joined-push [] word = append-nil word
 joined-push (w ∷ ws) word = ap (λ (t : List ℕ). w ++ t) (shifted ws word) ∙ simp append_assoc
 
-All-push : {A : Type 0} (P : A → Type 0) (xs : List A) (x : A) → AllByRecursion P xs → P x → AllByRecursion P (xs ++ x ∷ [])
+pub All-push : {A : Type 0} (P : A → Type 0) (xs : List A) (x : A) → AllByRecursion P xs → P x → AllByRecursion P (xs ++ x ∷ [])
 All-push P [] x h p = (p, tt)
 All-push P (y ∷ ys) x h p = (h.0, All-push P ys x h.1 p)
 

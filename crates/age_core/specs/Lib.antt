@@ -4,7 +4,11 @@ pub mod Outside
 pub mod Adapters
 -- one stanza and its one spelling
 pub mod Stanza
+-- proper prefixes of spellings
+pub mod Front
 -- the stanzas before the first `done`, within a budget
 pub mod Reading
+-- the scan that tells a front: no public clause cites it
+pub mod Sight
 -- the plain program that finds a stanza: no public clause cites it
 pub mod Scan

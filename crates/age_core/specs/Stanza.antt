@@ -19,9 +19,13 @@ stanza_of held = record { tag = string_bytes held.tag; args = map string_bytes h
 abbrev pub IsBytes : List ℕ → Type 0
 IsBytes bytes = (i : ℕ) → slice_index bytes i < 256
 
+-- a visible ASCII byte
+abbrev pub IsVisible : ℕ → Type 0
+IsVisible b = (33 ≤ b) × (b ≤ 126)
+
 -- one or more visible ASCII bytes
 abbrev pub IsArbitraryString : List ℕ → Type 0
-IsArbitraryString text = (text ≢ []) × AllByRecursion (λ b. (33 ≤ b) × (b ≤ 126)) text
+IsArbitraryString text = (text ≢ []) × AllByRecursion IsVisible text
 
 -- the characters for 0 to 63
 abbrev pub alphabet : List ℕ

@@ -1,8 +1,25 @@
 //! Laws of the definitions, each as the contract of a function that does nothing.
 
-ghost use Rattle.std.specs.Prelude.{◌≡◌, ℕ, List, [], ◌∷◌, ◌++◌, codes, replicate};
-ghost use Rattle.age_core.specs.Stanza.{Stanza, IsStanza, spelling};
-ghost use Rattle.age_core.specs.Reading.{HasNoDone, Reading, Reads, StandsBeforeDone};
+ghost use Rattle.std.specs.Prelude.{◌≡◌, ℕ, ◌-◌, ◌^◌, List, [], ◌∷◌, ◌++◌, ◌↔◌, codes, replicate, Some};
+ghost use Rattle.age_core.specs.Outside.{last_count, Rose, GainsPart};
+ghost use Rattle.age_core.specs.Stanza.{Stanza, IsStanza, IsFront, spelling};
+ghost use Rattle.age_core.specs.Front.{IsFrontByCases};
+ghost use Rattle.age_core.specs.Reading.{HasNoDone, Reading, Reads, StandsBeforeDone, Before_done, Invalid_data, Unexpected_eof, Too_much};
+
+/// Counts of faults at their edges: a count rises by one, and stands still at 2 ^ 64 - 1.
+pub fn worked_counts()
+    ensures last { last_count ≡ 2 ^ 64 - 1 }
+    ensures risen { Rose 4 5 }
+    ensures stands { Rose 4 4 → ⊥ }
+    ensures at_last { Rose last_count last_count }
+    ensures before_last { Rose (last_count - 1) (last_count - 1) → ⊥ }
+{}
+
+/// A sink that holds `a` and gets a part of `bcd`: it holds `abc`, and not `ac`.
+pub fn worked_parts()
+    ensures part { GainsPart (Some (codes "a")) (Some (codes "abc")) (codes "bcd") }
+    ensures no_part { GainsPart (Some (codes "a")) (Some (codes "ac")) (codes "bcd") → ⊥ }
+{}
 
 /// No spelling begins another: what two stanzas spell at the front of one text is one stanza.
 pub fn no_spelling_begins_another()
@@ -10,6 +27,12 @@ pub fn no_spelling_begins_another()
         → spelling s ++ more ≡ spelling t ++ rest → s ≡ t }
     ensures rests { (s t : Stanza) (more rest : List ℕ) → IsStanza s → IsStanza t
         → spelling s ++ more ≡ spelling t ++ rest → more ≡ rest }
+{}
+
+/// The proper prefixes of spellings are the three cases of the format: a part of `-> `; `-> ` and a
+/// header line that hasn't ended; a whole header line, full lines and 0 to 64 characters.
+pub fn fronts()
+    ensures { (text : List ℕ) → IsFront text ↔ IsFrontByCases text }
 {}
 
 /// No text has two readings.
@@ -39,4 +62,13 @@ pub fn worked_spellings()
         ≡ codes "-> test foo" ++ 10 ∷ codes "YmFy" ++ 10 ∷ [] }
     ensures zeros { spelling (record { tag = codes "kem"; args = []; body = replicate 32 0 })
         ≡ codes "-> kem" ++ 10 ∷ replicate 43 65 ++ 10 ∷ [] }
+{}
+
+/// The four ends of a reading, worked by hand: a `done`, bytes that no stanza has, a text that ends
+/// within the budget, and a budget that ends.
+pub fn worked_readings()
+    ensures before_done { Reads (codes "-> done" ++ 10 ∷ 10 ∷ codes "x") 9 (Before_done []) }
+    ensures invalid_data { Reads (codes "-> x" ++ 10 ∷ codes "/" ++ 10 ∷ []) 100 Invalid_data }
+    ensures unexpected_eof { Reads (codes "-> done" ++ 10 ∷ []) 9 Unexpected_eof }
+    ensures too_much { Reads (codes "-> done" ++ 10 ∷ 10 ∷ []) 8 Too_much }
 {}

@@ -2,6 +2,7 @@
 #![tactic(auto)]
 
 pub mod format;
+mod front;
 pub mod laws;
 pub mod outside;
 mod scan;

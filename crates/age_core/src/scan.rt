@@ -18,7 +18,7 @@ use std::mem;
 const ALPHABET: &str = "ABCDEFGHIJKLMNOPQRSTUVWXYZabcdefghijklmnopqrstuvwxyz0123456789+/";
 
 /// How many characters a full line of a body has.
-const LINE_LEN: usize = 64;
+pub const LINE_LEN: usize = 64;
 
 /// What each stanza begins with.
 const PREFIX: &[u8; 3] = b"-> ";
@@ -34,7 +34,7 @@ pub fn engine() -> GeneralPurpose
 }
 
 /// Whether a tag or an argument may hold the byte.
-fn is_visible(byte: u8) -> bool
+pub fn is_visible(byte: u8) -> bool
     ensures { result ≡ is_visible byte }
 {
     33 <= byte && byte <= 126

@@ -48,6 +48,12 @@ pub trait CtEqSlice: CtEq + Sized {
     }
 }
 
+/// Types at which `ct_eq` answers what `==` does. Generic code that asks for it may take either for the
+/// other, and an `impl` owes a proof.
+pub trait CtEqAgrees: CtEq + PartialEq {
+    ghost agrees: { (a b : Self) → Self.ct_eq a b ≡ Self.eq a b };
+}
+
 impl CtEq for u8 {
     ghost ct_eq = { nat_eq };
 
@@ -59,6 +65,12 @@ impl CtEq for u8 {
 }
 
 impl CtEqSlice for u8 {}
+
+impl CtEqAgrees for u8 {
+    ghost use Rattle.std.proofs.Common.{rules};
+
+    ghost agrees = { Prim.search rules };
+}
 
 impl CtEq for u16 {
     ghost ct_eq = { nat_eq };
@@ -72,6 +84,12 @@ impl CtEq for u16 {
 
 impl CtEqSlice for u16 {}
 
+impl CtEqAgrees for u16 {
+    ghost use Rattle.std.proofs.Common.{rules};
+
+    ghost agrees = { Prim.search rules };
+}
+
 impl CtEq for u32 {
     ghost ct_eq = { nat_eq };
 
@@ -83,6 +101,12 @@ impl CtEq for u32 {
 }
 
 impl CtEqSlice for u32 {}
+
+impl CtEqAgrees for u32 {
+    ghost use Rattle.std.proofs.Common.{rules};
+
+    ghost agrees = { Prim.search rules };
+}
 
 impl CtEq for u64 {
     ghost ct_eq = { nat_eq };
@@ -96,6 +120,12 @@ impl CtEq for u64 {
 
 impl CtEqSlice for u64 {}
 
+impl CtEqAgrees for u64 {
+    ghost use Rattle.std.proofs.Common.{rules};
+
+    ghost agrees = { Prim.search rules };
+}
+
 impl CtEq for u128 {
     ghost ct_eq = { nat_eq };
 
@@ -107,6 +137,12 @@ impl CtEq for u128 {
 }
 
 impl CtEqSlice for u128 {}
+
+impl CtEqAgrees for u128 {
+    ghost use Rattle.std.proofs.Common.{rules};
+
+    ghost agrees = { Prim.search rules };
+}
 
 impl CtEq for usize {
     ghost ct_eq = { nat_eq };
@@ -120,6 +156,12 @@ impl CtEq for usize {
 
 impl CtEqSlice for usize {}
 
+impl CtEqAgrees for usize {
+    ghost use Rattle.std.proofs.Common.{rules};
+
+    ghost agrees = { Prim.search rules };
+}
+
 impl CtEq for i8 {
     ghost ct_eq = { int_eq };
 
@@ -131,6 +173,12 @@ impl CtEq for i8 {
 }
 
 impl CtEqSlice for i8 {}
+
+impl CtEqAgrees for i8 {
+    ghost use Rattle.std.proofs.Common.{rules};
+
+    ghost agrees = { Prim.search rules };
+}
 
 impl CtEq for i16 {
     ghost ct_eq = { int_eq };
@@ -144,6 +192,12 @@ impl CtEq for i16 {
 
 impl CtEqSlice for i16 {}
 
+impl CtEqAgrees for i16 {
+    ghost use Rattle.std.proofs.Common.{rules};
+
+    ghost agrees = { Prim.search rules };
+}
+
 impl CtEq for i32 {
     ghost ct_eq = { int_eq };
 
@@ -155,6 +209,12 @@ impl CtEq for i32 {
 }
 
 impl CtEqSlice for i32 {}
+
+impl CtEqAgrees for i32 {
+    ghost use Rattle.std.proofs.Common.{rules};
+
+    ghost agrees = { Prim.search rules };
+}
 
 impl CtEq for i64 {
     ghost ct_eq = { int_eq };
@@ -168,6 +228,12 @@ impl CtEq for i64 {
 
 impl CtEqSlice for i64 {}
 
+impl CtEqAgrees for i64 {
+    ghost use Rattle.std.proofs.Common.{rules};
+
+    ghost agrees = { Prim.search rules };
+}
+
 impl CtEq for i128 {
     ghost ct_eq = { int_eq };
 
@@ -180,6 +246,12 @@ impl CtEq for i128 {
 
 impl CtEqSlice for i128 {}
 
+impl CtEqAgrees for i128 {
+    ghost use Rattle.std.proofs.Common.{rules};
+
+    ghost agrees = { Prim.search rules };
+}
+
 impl CtEq for isize {
     ghost ct_eq = { int_eq };
 
@@ -191,6 +263,12 @@ impl CtEq for isize {
 }
 
 impl CtEqSlice for isize {}
+
+impl CtEqAgrees for isize {
+    ghost use Rattle.std.proofs.Common.{rules};
+
+    ghost agrees = { Prim.search rules };
+}
 
 impl CtEq for Choice {
     ghost ct_eq = { beq };
@@ -216,6 +294,12 @@ impl CtEq for Ordering {
 
 impl CtEqSlice for Ordering {}
 
+impl CtEqAgrees for Ordering {
+    ghost use Rattle.std.proofs.Common.{rules};
+
+    ghost agrees = { Prim.search rules };
+}
+
 impl<T: CtEqSlice, const N: usize> CtEq for [T; N] {
     ghost ct_eq = { pointwise T.ct_eq };
 
@@ -227,3 +311,9 @@ impl<T: CtEqSlice, const N: usize> CtEq for [T; N] {
 }
 
 impl<T: CtEqSlice, const N: usize> CtEqSlice for [T; N] {}
+
+impl<T: CtEqSlice + CtEqAgrees, const N: usize> CtEqAgrees for [T; N] {
+    ghost use Rattle.ctutils.specs.Agreement.{pointwise-agrees};
+
+    ghost agrees = { pointwise-agrees T.ct_eq T.eq T.CtEqAgrees.agrees };
+}

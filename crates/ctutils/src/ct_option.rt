@@ -87,6 +87,10 @@ impl<T> CtOption<T> {
     }
 
     /// The same choice over a mutable reference to what the value points to.
+    ///
+    /// No clause says what the option is once the loan ends: that is for the type's `deref_mut`, of
+    /// which its trait says nothing. Where it matters, take `as_mut`, which keeps the choice, and call
+    /// `deref_mut` on the reference that it gives.
     pub fn as_deref_mut(&mut self) -> CtOption<&mut T::Target>
     where
         T: DerefMut,

@@ -13,7 +13,7 @@ mod vectors;
 pub use boxes::{box_ct_assign, box_ct_eq, box_ct_select};
 pub use ct_assign::{CtAssign, CtAssignSlice};
 pub use ct_choice::{Choice, CtGt, CtLt, CtNeg, primitives};
-pub use ct_eq::{CtEq, CtEqSlice};
+pub use ct_eq::{CtEq, CtEqAgrees, CtEqSlice};
 pub use ct_option::CtOption;
 pub use ct_select::{CtSelect, CtSelectArray};
 pub use search::{LookupIndex, ct_find, ct_lookup};

@@ -1,11 +1,14 @@
 // Each call at concrete types, over the edges of each width, and the worked searches and options.
-use crate::laws::{ct_eq_agrees, ct_eq_agrees_at_arrays};
+ghost use Rattle.std.specs.Prelude.{◌≡◌};
+
+use crate::laws::ct_eq_agrees;
 use crate::{
-    Choice, CtAssign, CtAssignSlice, CtEq, CtEqSlice, CtOption, CtSelect, CtSelectArray,
-    box_ct_assign, box_ct_eq, box_ct_select, ct_find, ct_lookup, vec_ct_assign,
+    Choice, CtAssign, CtAssignSlice, CtEq, CtEqAgrees, CtEqSlice, CtOption, CtSelect,
+    CtSelectArray, box_ct_assign, box_ct_eq, box_ct_select, ct_find, ct_lookup, vec_ct_assign,
     vec_ct_assign_slice, vec_ct_eq, vec_ct_eq_slice, vec_ct_select,
 };
 use std::cmp::Ordering;
+use std::ops::DerefMut;
 use std::process::Abort;
 use std::test::Fail;
 
@@ -55,7 +58,6 @@ fn values(rt: HostRuntime) {
     tells_apart(&rt, [1u8, 2, 3], [1, 2, 4]);
     tells_apart(&rt, [[1i8], [2]], [[1], [3]]);
     tells_apart(&rt, CtOption::new(1u8, NO), CtOption::some(1));
-    ct_eq_agrees();
 }
 
 #[test]
@@ -70,7 +72,32 @@ fn slices_and_arrays(rt: HostRuntime) {
     assert_eq!(rt; c, b);
     assert_eq!(rt; u32::ct_select_array(&a, &b, NO), a);
     assert_eq!(rt; u32::ct_select_array(&a, &b, YES), b);
-    ct_eq_agrees_at_arrays(&a, &b);
+}
+
+// The two equalities answer the same: by the law, and when they are asked.
+fn answers_alike<T: CtEqAgrees>(rt: &impl Abort, a: &T, b: &T) {
+    ct_eq_agrees::<T>();
+    assert!(rt; a.ct_eq(a).to_bool() && a == a);
+    assert!(rt; !a.ct_eq(b).to_bool() && a != b);
+}
+
+#[test]
+fn agreement(rt: HostRuntime) {
+    answers_alike(&rt, &0u8, &u8::MAX);
+    answers_alike(&rt, &1u16, &0x8000);
+    answers_alike(&rt, &0u32, &u32::MAX);
+    answers_alike(&rt, &1u64, &(1 << 63));
+    answers_alike(&rt, &0u128, &u128::MAX);
+    answers_alike(&rt, &0usize, &usize::MAX);
+    answers_alike(&rt, &-1i8, &i8::MIN);
+    answers_alike(&rt, &0i16, &i16::MIN);
+    answers_alike(&rt, &-1i32, &1);
+    answers_alike(&rt, &i64::MIN, &i64::MAX);
+    answers_alike(&rt, &-1i128, &0);
+    answers_alike(&rt, &0isize, &-1);
+    answers_alike(&rt, &Ordering::Less, &Ordering::Greater);
+    answers_alike(&rt, &[1u8, 2, 3], &[1, 2, 4]);
+    answers_alike(&rt, &[[1i8], [2]], &[[1], [3]]);
 }
 
 #[test]
@@ -182,6 +209,15 @@ fn options_of_references(rt: HostRuntime) {
     assert_eq!(rt; *lent.as_deref().unwrap(), 6);
     *lent.as_deref_mut().unwrap() = 7;
     assert_eq!(rt; *lent.value, 7);
+    keeps_choice(&mut lent);
+}
+
+// Through `as_mut` the choice stays, whatever the type's `deref_mut` does to the value.
+fn keeps_choice<T: DerefMut>(option: &mut CtOption<T>)
+    ensures { option.new.is_some ≡ option.old.is_some }
+{
+    let lent = option.as_mut();
+    let _shown = lent.value.deref_mut();
 }
 
 // Each closure is called once, on a none too, with the hidden value.

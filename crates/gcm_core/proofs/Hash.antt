@@ -1,12 +1,12 @@
 -- GHASH: Horner's rule gives the sum of products, and the blocks come piece by piece.
-use Rattle.std.proofs.Common.{◌≡◌, ◌≢◌, ℕ, zero, suc, ◌+◌, ◌-◌, ◌*◌, ◌/◌, ◌%◌, ◌^◌, ◌<◌, ◌≤◌, List, [], ◌∷◌, ◌++◌, length, take, drop, replicate, refl, sym, ap, ◌∙◌, add-one, arith, length-append, length-drop}
-use Rattle.std.specs.Prelude.{bit_and, bit_xor}
+use Rattle.std.proofs.Common.{◌≡◌, ◌↔◌, ℕ, zero, suc, ◌+◌, ◌-◌, ◌*◌, ◌/◌, ◌%◌, ◌^◌, ◌<◌, ◌≤◌, List, [], ◌∷◌, ◌++◌, length, take, drop, replicate, refl, sym, ap, ◌∙◌, add-one, arith, IsTrue, inl, inr, length-append, length-drop}
+use Rattle.std.specs.Prelude.{Bool, true, false, bit_xor, if◌then◌else◌}
 use Rattle.std.specs.Int.{div_ceil, to_be_bytes, w64}
+use Rattle.std.proofs.lemmas.Bool.{cases_lt, false≢true}
 use Rattle.std.proofs.lemmas.Nat.{shr-shr}
-use Rattle.std.proofs.lemmas.Nat.Bits.{shr_and_one}
 use Rattle.std.proofs.lemmas.List.{append_assoc, drop-append-le, drop-drop, length-replicate, take-append-le, take_all, nil_from_length}
 use lib.Bits.{xor_assoc, xor_zero_r}
-use Rattle.gcm_core.proofs.Fields.{Reduces, picked, product_of-by_one, product_of-lt, product_of-of_xor, product_of-one, product_of_comm, product_of-next, product_of-xor, product_of-zero, product_of_assoc}
+use Rattle.gcm_core.proofs.Fields.{Reduces, picked, product_of-by_one, product_of-lt, product_of-of_xor, product_of-one, product_of_comm, product_of-next, product_of-xor, product_of-zero, product_of_assoc, times_x-high, times_x-low}
 use Rattle.gcm_core.specs.FieldMul.{product_of, times_x}
 use Rattle.gcm_core.specs.Gcm.{authenticated, padded}
 use Rattle.gcm_core.specs.Ghash.{block_power, block_product, continued, polynomial_of, polynomials, reduction_block, weighted_sum}
@@ -100,22 +100,32 @@ product_of-step i a b prev t lt held et =
     let inner : t ≡ times_x 128 reduction_block (product_of 128 reduction_block i (a / 2 ^ k / 2) b) = et ∙ ap (times_x 128 reduction_block) (held ∙ rw half refl) in
     ap (λ (z : ℕ). bit_xor z (picked (a / 2 ^ k % 2) b)) inner ∙ sym (product_of-next 128 reduction_block i (a / 2 ^ k) b) ∙ rw (add-one i) refl
 
--- where the bit is 1
-pub product_of-step_one : (i a b prev t : ℕ) → i < 128 → prev ≡ product_of 128 reduction_block i (a / 2 ^ (128 - i)) b → t ≡ times_x 128 reduction_block prev
-    → bit_and (a / 2 ^ (127 - i)) 1 ≡ 1 → bit_xor t b ≡ product_of 128 reduction_block (i + 1) (a / 2 ^ (128 - (i + 1))) b
-product_of-step_one i a b prev t lt held et bit =
+-- by a choice on the bit
+pub product_of-chosen : (odd : Bool) (i a b prev t out : ℕ) → i < 128 → prev ≡ product_of 128 reduction_block i (a / 2 ^ (128 - i)) b → t ≡ times_x 128 reduction_block prev
+    → IsTrue odd ↔ (a / 2 ^ (127 - i) % 2 ≡ 1) → out ≡ (if odd then bit_xor t b else t) → out ≡ product_of 128 reduction_block (i + 1) (a / 2 ^ (128 - (i + 1))) b
+product_of-chosen true i a b prev t out lt held et bit eo =
     let e : 127 - i ≡ 128 - (i + 1) = omega arith in
-    let is : a / 2 ^ (128 - (i + 1)) % 2 ≡ 1 = rw e at (sym (shr_and_one a (127 - i)) ∙ bit) in
-    rw is at (product_of-step i a b prev t lt held et)
+    let is : a / 2 ^ (128 - (i + 1)) % 2 ≡ 1 = rw e at (bit.0 refl) in
+    eo ∙ (rw is at (product_of-step i a b prev t lt held et))
+product_of-chosen false i a b prev t out lt held et bit eo =
+    let e : 127 - i ≡ 128 - (i + 1) = omega arith in
+    let even : a / 2 ^ (127 - i) % 2 ≡ 0 = by_parity (a / 2 ^ (127 - i)) (λ h. false≢true (bit.1 h)) in
+    eo ∙ sym (xor_zero_r t) ∙ (rw (rw e at even) at (product_of-step i a b prev t lt held et))
+  where
+    by_parity : (n : ℕ) → (n % 2 ≡ 1 → ⊥) → n % 2 ≡ 0
+    by_parity n h = elim (cases_lt (n % 2) 1) [ inl l ↦ omega arith | inr g ↦ absurd (h (omega arith)) ]
 
--- where it is 0
-pub product_of-step_none : (i a b prev t : ℕ) → i < 128 → prev ≡ product_of 128 reduction_block i (a / 2 ^ (128 - i)) b → t ≡ times_x 128 reduction_block prev
-    → bit_and (a / 2 ^ (127 - i)) 1 ≢ 1 → t ≡ product_of 128 reduction_block (i + 1) (a / 2 ^ (128 - (i + 1))) b
-product_of-step_none i a b prev t lt held et bit =
-    let e : 127 - i ≡ 128 - (i + 1) = omega arith in
-    let same : bit_and (a / 2 ^ (127 - i)) 1 ≡ a / 2 ^ (127 - i) % 2 = shr_and_one a (127 - i) in
-    let is : a / 2 ^ (127 - i) % 2 ≡ 0 = omega arith in
-    sym (xor_zero_r t) ∙ (rw (rw e at is) at (product_of-step i a b prev t lt held et))
+-- x·p by a choice on the highest coefficient
+pub times_x-chosen : (passes : Bool) (p lo out : ℕ) → p < 2 ^ 128 → IsTrue passes ↔ (p / 2 ^ 127 % 2 ≡ 1) → lo ≡ p * 2 % 2 ^ 128 → out ≡ (if passes then bit_xor lo reduction_block else lo)
+    → out ≡ times_x 128 reduction_block p
+times_x-chosen true p lo out lt bit el eo =
+    let high : p / 2 ^ 127 % 2 ≡ 1 = bit.0 refl in
+    let same : lo ≡ 2 * p - 2 ^ 128 = omega arith in
+    eo ∙ ap (λ (k : ℕ). bit_xor k reduction_block) same ∙ sym (times_x-high 128 reduction_block p (omega arith))
+times_x-chosen false p lo out lt bit el eo =
+    let low : p < 2 ^ 127 = elim (cases_lt p (2 ^ 127)) [ inl l ↦ l | inr g ↦ absurd (false≢true (bit.1 (omega arith))) ] in
+    let same : lo ≡ 2 * p = omega arith in
+    eo ∙ same ∙ sym (times_x-low 128 reduction_block p low)
 
 -- ---- blocks
 

@@ -6,3 +6,6 @@ pub mod Hash
 pub mod Stream
 pub mod Sealing
 pub mod SealingLaws
+pub mod Lanes
+pub mod HalfBytes
+pub mod Rounds

@@ -6,3 +6,7 @@ pub mod Aes
 pub mod Ghash
 -- sealing and opening
 pub mod Gcm
+-- SubBytes by half bytes, which private functions compute
+pub mod Nibbles
+-- counter blocks further on, which private functions compute
+pub mod Counters

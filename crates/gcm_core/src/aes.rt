@@ -1,7 +1,10 @@
 // The block cipher AES under a key of 16, 24 or 32 bytes (FIPS 197).
 
-ghost use Rattle.std.specs.Prelude.{◌≡◌, ◌+◌, ◌*◌, ◌%◌, ◌<◌, ◌≤◌, bit_xor, length};
-ghost use Rattle.gcm_core.specs.Aes.{add_round_key, byte_product, cipher, key_expansion, mix_columns, s_box, schedule_term, shift_rows, sub_bytes, sub_word, word_at, xor_bytes};
+ghost use Rattle.std.specs.Prelude.{◌≡◌, ◌+◌, ◌*◌, ◌%◌, ◌<◌, ◌≤◌, length, take};
+ghost use Rattle.gcm_core.specs.Aes.{add_round_key, cipher, key_expansion, mix_columns, schedule_term, shift_rows, sub_bytes, sub_word, word_at, xor_bytes};
+
+use crate::nibbles::substitutes;
+use std::simd::prelude::*;
 
 pub(crate) const BLOCK_LEN: usize = 16;
 
@@ -12,9 +15,6 @@ const WORD_LEN: usize = 4;
 
 // A word of the key schedule.
 type Word = [u8; WORD_LEN];
-
-// What x^8 is modulo the field's polynomial x^8 + x^4 + x^3 + x + 1.
-const REDUCTION: u8 = 0x1b;
 
 // The powers of x from x^0 on, which Rcon counts from 1.
 const POWERS_OF_X: [u8; 10] = [0x01, 0x02, 0x04, 0x08, 0x10, 0x20, 0x40, 0x80, 0x1b, 0x36];
@@ -39,79 +39,43 @@ pub(crate) const S_BOX: [u8; 256] = [
     0x8c, 0xa1, 0x89, 0x0d, 0xbf, 0xe6, 0x42, 0x68, 0x41, 0x99, 0x2d, 0x0f, 0xb0, 0x54, 0xbb, 0x16,
 ];
 
-fn s_box(b: u8) -> u8
-    ensures { result ≡ s_box b }
+// The places of ShiftRows, and those of the bytes one, two and three rows further down in the same
+// column after it, which MixColumns adds.
+const SHIFTED: [usize; BLOCK_LEN] = [0, 5, 10, 15, 4, 9, 14, 3, 8, 13, 2, 7, 12, 1, 6, 11];
+
+const SHIFTED_1: [usize; BLOCK_LEN] = [5, 10, 15, 0, 9, 14, 3, 4, 13, 2, 7, 8, 1, 6, 11, 12];
+
+const SHIFTED_2: [usize; BLOCK_LEN] = [10, 15, 0, 5, 14, 3, 4, 9, 2, 7, 8, 13, 6, 11, 12, 1];
+
+const SHIFTED_3: [usize; BLOCK_LEN] = [15, 0, 5, 10, 3, 4, 9, 14, 7, 8, 13, 2, 11, 12, 1, 6];
+
+// SubBytes, ShiftRows and MixColumns. Three times a byte is its double and itself.
+#[inline(always)]
+fn mixed(s: u8x16) -> u8x16
+    ensures { result ≡ mix_columns (shift_rows (sub_bytes s)) }
 {
-    S_BOX[b as usize]
+    let (once, twice) = substitutes(s);
+    twice.swizzle(SHIFTED)
+        ^ (twice ^ once).swizzle(SHIFTED_1)
+        ^ once.swizzle(SHIFTED_2)
+        ^ once.swizzle(SHIFTED_3)
 }
 
-fn times_two(b: u8) -> u8
-    ensures { result ≡ byte_product 2 b }
+// SubBytes and ShiftRows.
+#[inline(always)]
+fn shifted(s: u8x16) -> u8x16
+    ensures { result ≡ shift_rows (sub_bytes s) }
 {
-    if b < 0x80 {
-        b << 1
-    } else {
-        (b << 1) ^ REDUCTION
-    }
+    let (once, _twice) = substitutes(s);
+    once.swizzle(SHIFTED)
 }
 
-fn times_three(b: u8) -> u8
-    ensures { result ≡ byte_product 3 b }
-{
-    times_two(b) ^ b
-}
-
-fn sub_bytes(state: Block) -> Block
-    ensures { result ≡ sub_bytes state }
-{
-    let mut out = [0; BLOCK_LEN];
-    for k in 0..BLOCK_LEN {
-        out[k] = s_box(state[k]);
-    }
-    out
-}
-
-fn shift_rows(s: Block) -> Block
-    ensures { result ≡ shift_rows s }
-{
-    [
-        s[0], s[5], s[10], s[15], s[4], s[9], s[14], s[3], s[8], s[13], s[2], s[7], s[12], s[1],
-        s[6], s[11],
-    ]
-}
-
-// A byte of MixColumns, from the column's bytes from its own row on.
-fn mixed_byte(a: u8, b: u8, c: u8, d: u8) -> u8
-    ensures { result ≡ bit_xor (bit_xor (bit_xor (byte_product 2 a) (byte_product 3 b)) c) d }
-{
-    times_two(a) ^ times_three(b) ^ c ^ d
-}
-
-fn mix_columns(s: Block) -> Block
-    ensures { result ≡ mix_columns s }
-{
-    let mut out = [0; BLOCK_LEN];
-    for k in 0..BLOCK_LEN {
-        let column = k - k % 4;
-        out[k] = mixed_byte(
-            s[k],
-            s[column + (k + 1) % 4],
-            s[column + (k + 2) % 4],
-            s[column + (k + 3) % 4],
-        );
-    }
-    out
-}
-
-fn add_round_key(state: Block, round_keys: &[u8], round: usize) -> Block
+#[inline(always)]
+fn add_round_key(state: u8x16, round_keys: &[u8], round: usize) -> u8x16
     requires { 16 * (round + 1) ≤ length round_keys.now }
     ensures { result ≡ add_round_key round_keys.now round state }
 {
-    let mut out = [0; BLOCK_LEN];
-    for k in 0..BLOCK_LEN {
-        out[k] = state[k] ^ round_keys[BLOCK_LEN * round + k];
-    }
-    out
+    state ^ u8x16::from_slice(&round_keys[BLOCK_LEN * round..])
 }
 
 // The cipher over one block. The number of rounds is one less than the number of round keys.
@@ -120,11 +84,41 @@ pub(crate) fn cipher(round_keys: &[u8], block: Block) -> Block
     ensures { result ≡ cipher round_keys.now block }
 {
     let rounds = round_keys.len() / BLOCK_LEN - 1;
-    let mut state = add_round_key(block, round_keys, 0);
+    let mut state = add_round_key(u8x16::from_array(block), round_keys, 0);
     for round in 1..rounds {
-        state = add_round_key(mix_columns(shift_rows(sub_bytes(state))), round_keys, round);
+        state = add_round_key(mixed(state), round_keys, round);
     }
-    add_round_key(shift_rows(sub_bytes(state)), round_keys, rounds)
+    add_round_key(shifted(state), round_keys, rounds).to_array()
+}
+
+// The cipher over four blocks, which go through each round together.
+pub(crate) fn cipher_four(
+    round_keys: &[u8],
+    a: Block,
+    b: Block,
+    c: Block,
+    d: Block,
+) -> (u8x16, u8x16, u8x16, u8x16)
+    requires { 32 ≤ length round_keys.now }
+    ensures { result ≡ (cipher round_keys.now a, cipher round_keys.now b, cipher round_keys.now c, cipher round_keys.now d) }
+{
+    let rounds = round_keys.len() / BLOCK_LEN - 1;
+    let mut a = add_round_key(u8x16::from_array(a), round_keys, 0);
+    let mut b = add_round_key(u8x16::from_array(b), round_keys, 0);
+    let mut c = add_round_key(u8x16::from_array(c), round_keys, 0);
+    let mut d = add_round_key(u8x16::from_array(d), round_keys, 0);
+    for round in 1..rounds {
+        a = add_round_key(mixed(a), round_keys, round);
+        b = add_round_key(mixed(b), round_keys, round);
+        c = add_round_key(mixed(c), round_keys, round);
+        d = add_round_key(mixed(d), round_keys, round);
+    }
+    (
+        add_round_key(shifted(a), round_keys, rounds),
+        add_round_key(shifted(b), round_keys, rounds),
+        add_round_key(shifted(c), round_keys, rounds),
+        add_round_key(shifted(d), round_keys, rounds),
+    )
 }
 
 // Word `i` of a key schedule.
@@ -141,15 +135,22 @@ fn word_at(round_keys: &[u8], i: usize) -> Word
     ]
 }
 
+// SubWord of the first four bytes of a vector.
+#[inline(always)]
+fn sub_first_word(lanes: u8x16) -> Word
+    ensures { result ≡ sub_word (take 4 lanes) }
+{
+    let (once, _twice) = substitutes(lanes);
+    let bytes = once.to_array();
+    [bytes[0], bytes[1], bytes[2], bytes[3]]
+}
+
 fn sub_word(word: Word) -> Word
     ensures { result ≡ sub_word word }
 {
-    [
-        s_box(word[0]),
-        s_box(word[1]),
-        s_box(word[2]),
-        s_box(word[3]),
-    ]
+    let mut bytes = [0; BLOCK_LEN];
+    bytes[..WORD_LEN].copy_from_slice(&word);
+    sub_first_word(u8x16::from_array(bytes))
 }
 
 fn xor_words(a: Word, b: Word) -> Word

@@ -1,18 +1,23 @@
 // GCM over a key schedule and its hash subkey, with a nonce of 12 bytes (SP 800-38D). A key of another
 // size is another schedule.
 
-ghost use Rattle.std.specs.Prelude.{◌≡◌, ◌↔◌, ◌+◌, ◌-◌, ◌*◌, ◌^◌, ◌<◌, ◌≤◌, ◌++◌, ◌≢◌, ◌⊎◌, IsErr, IsTrue, None, OnErr, OnOk, Some, length, replicate};
+ghost use Rattle.std.specs.Prelude.{◌≡◌, ◌↔◌, ◌+◌, ◌-◌, ◌*◌, ◌/◌, ◌%◌, ◌^◌, ◌<◌, ◌≤◌, ◌++◌, ◌≢◌, ◌⊎◌, IsErr, IsTrue, None, OnErr, OnOk, Some, length, replicate};
 ghost use Rattle.gcm_core.specs.Aes.{cipher, xor_bytes};
-ghost use Rattle.gcm_core.specs.Gcm.{gcm_ad, gcm_ae, gctr, inc32, j0, tag_of};
+ghost use Rattle.gcm_core.specs.Gcm.{gcm_ad, gcm_ae, gctr, gctr_blocks, inc32, j0, tag_of};
+ghost use Rattle.gcm_core.specs.Counters.{counter_after};
 ghost use Rattle.gcm_core.specs.Ghash.{polynomial_of};
 
-use crate::aes::{BLOCK_LEN, Block, cipher};
+use crate::aes::{BLOCK_LEN, Block, cipher, cipher_four};
 use crate::error::{NotAuthentic, TooLong};
 use crate::ghash::{ghash, polynomial_of};
 use ct_choice::Choice;
+use std::simd::prelude::*;
 
 // The bytes of a nonce, which stand before the counter in a counter block.
 const NONCE_LEN: usize = 12;
+
+// The bytes of four blocks, which are ciphered together.
+const FOUR_BLOCKS: usize = 4 * BLOCK_LEN;
 
 type Nonce = [u8; NONCE_LEN];
 
@@ -59,6 +64,15 @@ fn text_start(nonce: &Nonce) -> Block
     block
 }
 
+// The block after this one.
+fn next(block: Block) -> Block
+    ensures { result ≡ inc32 block }
+{
+    let mut counter = block;
+    inc32(&mut counter);
+    counter
+}
+
 fn xor_in_place(text: &mut [u8], stream: Block)
     requires { length text.old ≤ 16 }
     ensures { text.new ≡ xor_bytes text.old stream }
@@ -68,8 +82,52 @@ fn xor_in_place(text: &mut [u8], stream: Block)
     }
 }
 
-// GCTR from the counter block `icb`.
-fn gctr(round_keys: &[u8], icb: Block, text: &mut [u8])
+// The same over a whole block.
+#[inline(always)]
+fn xor_block(text: &mut [u8], stream: u8x16)
+    requires { length text.old ≡ 16 }
+    ensures { text.new ≡ xor_bytes text.old stream }
+{
+    (u8x16::from_slice(text) ^ stream).copy_to_slice(text);
+}
+
+// GCTR over four blocks, from the counter block `counter`, which moves on behind them.
+fn gctr_four(round_keys: &[u8], counter: &mut Block, text: &mut [u8])
+    requires schedule { 32 ≤ length round_keys.now }
+    requires four { length text.old ≡ 64 }
+    ensures text { text.new ≡ gctr_blocks (cipher round_keys.now) 4 counter.old text.old }
+    ensures counter { counter.new ≡ counter_after 4 counter.old }
+{
+    let first = *counter;
+    let second = next(first);
+    let third = next(second);
+    let fourth = next(third);
+    *counter = next(fourth);
+    let (a, b, c, d) = cipher_four(round_keys, first, second, third, fourth);
+    let (front, back) = text.split_at_mut(2 * BLOCK_LEN);
+    let (first_block, second_block) = front.split_at_mut(BLOCK_LEN);
+    let (third_block, fourth_block) = back.split_at_mut(BLOCK_LEN);
+    xor_block(first_block, a);
+    xor_block(second_block, b);
+    xor_block(third_block, c);
+    xor_block(fourth_block, d);
+}
+
+// GCTR over whole groups of four blocks, from the counter block `counter`, which moves on behind them.
+fn gctr_fours(round_keys: &[u8], counter: &mut Block, text: &mut [u8])
+    requires schedule { 32 ≤ length round_keys.now }
+    requires fours { length text.old % 64 ≡ 0 }
+    ensures text { text.new ≡ gctr_blocks (cipher round_keys.now) (length text.old / 16) counter.old text.old }
+    ensures counter { counter.new ≡ counter_after (length text.old / 16) counter.old }
+{
+    for i in 0..text.len() / FOUR_BLOCKS {
+        let start = FOUR_BLOCKS * i;
+        gctr_four(round_keys, counter, &mut text[start..start + FOUR_BLOCKS]);
+    }
+}
+
+// GCTR block by block; the last one may be short.
+fn gctr_rest(round_keys: &[u8], icb: Block, text: &mut [u8])
     requires { 32 ≤ length round_keys.now }
     ensures { text.new ≡ gctr (cipher round_keys.now) icb text.old }
 {
@@ -81,6 +139,18 @@ fn gctr(round_keys: &[u8], icb: Block, text: &mut [u8])
         xor_in_place(&mut text[start..end], stream);
         inc32(&mut counter);
     }
+}
+
+// GCTR from the counter block `icb`.
+fn gctr(round_keys: &[u8], icb: Block, text: &mut [u8])
+    requires { 32 ≤ length round_keys.now }
+    ensures { text.new ≡ gctr (cipher round_keys.now) icb text.old }
+{
+    let whole = text.len() / FOUR_BLOCKS * FOUR_BLOCKS;
+    let (fours, rest) = text.split_at_mut(whole);
+    let mut counter = icb;
+    gctr_fours(round_keys, &mut counter, fours);
+    gctr_rest(round_keys, counter, rest);
 }
 
 fn tag_of(round_keys: &[u8], subkey: u128, nonce: &Nonce, aad: &[u8], text: &[u8]) -> Tag

@@ -7,6 +7,7 @@ ghost use Rattle.gcm_core.specs.Gcm.{authenticated, padded};
 ghost use Rattle.gcm_core.specs.Ghash.{block_of, block_product, continued, polynomial_of, polynomials, reduction_block, weighted_sum};
 
 use crate::aes::{BLOCK_LEN, Block};
+use ct_choice::Choice;
 
 // The coefficients of an element of GF(2^128).
 const DEGREE: u32 = 128;
@@ -23,11 +24,8 @@ const LENGTH_LEN: usize = 8;
 fn times_x(p: u128) -> u128
     ensures { result ≡ times_x 128 reduction_block p }
 {
-    if p >> (DEGREE - 1) == 0 {
-        p << 1
-    } else {
-        (p << 1) ^ REDUCTION
-    }
+    let passes = Choice::from_u128_lsb(p >> (DEGREE - 1));
+    passes.select_u128(p << 1, (p << 1) ^ REDUCTION)
 }
 
 // From the highest coefficient of `a` down.
@@ -36,10 +34,9 @@ fn block_product(a: u128, b: u128) -> u128
 {
     let mut product = 0;
     for i in 0..DEGREE {
-        product = times_x(product);
-        if (a >> (DEGREE - 1 - i)) & 1 == 1 {
-            product ^= b;
-        }
+        let sum = times_x(product);
+        let odd = Choice::from_u128_lsb(a >> (DEGREE - 1 - i));
+        product = odd.select_u128(sum, sum ^ b);
     }
     product
 }

@@ -9,6 +9,7 @@ mod gcm;
 mod ghash;
 mod keyed;
 pub mod laws;
+mod nibbles;
 #[cfg(test)]
 mod tests;
 

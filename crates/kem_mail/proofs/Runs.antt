@@ -168,3 +168,19 @@ module _ (words : List (List ℕ)) (left : Option (List ℕ)) (result fb fn : �
 
   pub opened_complete : (source_rose : Type 0) (line : List ℕ) → IsTold result 0 fb fn before now line → IsComplete words left result source_rose (Rose fb fn)
   opened_complete source_rose line told = for_each left (λ text messages command mail a b. elim told [ inl all ↦ inl all.0 | inr part ↦ absurd (b part.1) ])
+
+-- a run that owes status 3 over a head and a mail isn't there
+pub not_owed : (words : List (List ℕ)) (text : List ℕ) (output : List ℕ) (messages : List (List ℕ)) → HoldsMail text messages → Due words text 3 output → ⊥
+not_owed words text output messages mail (inl due) = let e = due.status_is in omega arith
+not_owed words text output messages mail (inr (inl due)) = let e = due.status_is in omega arith
+not_owed words text output messages mail (inr (inr due)) = due.mail messages mail
+
+-- the statuses that are left over a source that never fails
+pub statuses_left : (result : ℕ) (fault : Type 0) → IsAnswer result ⊎ ((result ≡ 4) ⊎ ((result ≡ 5) ⊎ (result ≡ 6))) → (result ≡ 2 → ⊥) → (result ≡ 3 → ⊥) → (result ≡ 4 → ⊥) → (result ≡ 5 → fault)
+    → (result ≡ 0) ⊎ ((result ≡ 6) ⊎ ((result ≡ 5) × fault))
+statuses_left result fault (inl (inl e)) two three four five = inl e
+statuses_left result fault (inl (inr (inl e))) two three four five = absurd (two e)
+statuses_left result fault (inl (inr (inr e))) two three four five = absurd (three e)
+statuses_left result fault (inr (inl e)) two three four five = absurd (four e)
+statuses_left result fault (inr (inr (inl e))) two three four five = inr (inr (e, five e))
+statuses_left result fault (inr (inr (inr e))) two three four five = inr (inl e)

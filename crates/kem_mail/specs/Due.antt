@@ -4,26 +4,22 @@ use Rattle.kem_mail.specs.Command.{IsOpen}
 use Rattle.kem_mail.specs.Head.{IsHead}
 use Rattle.sha2.specs.Sha256.{sha256}
 use Rattle.gcm_core.specs.Gcm.{open_of}
-use Rattle.hpke.specs.Schedule.{Suite, mode_base, receiver_setup}
+use Rattle.hpke.specs.Schedule.{Suite, suite_of}
 use Rattle.hpke.specs.Mask.{mask_decap}
-use Rattle.kem_mail.specs.Mail.{Opener, Opens}
+use Rattle.kem_mail.specs.Mail.{Opener, Opens, opener_of}
 use Rattle.kem_mail.specs.Lines.{lines}
 
 -- the most bytes of a mail that are read
 abbrev pub mail_budget : ℕ
 mail_budget = 16777216
 
--- the test KEM, HKDF-SHA256 and AES-256-GCM
+-- the test KEM, HKDF-SHA256 and AES-256-GCM (RFC 9180, sections 7.2 and 7.3)
 abbrev pub suite : Suite
-suite = record { hash = sha256; block_size = 64; digest_size = 32; key_size = 32; nonce_size = 12; kem_id = 0xFF00; kdf_id = 1; aead_id = 2 }
+suite = suite_of 0xFF00 (record { hash = sha256; block_size = 64; digest_size = 32; kdf_id = 1 }) (record { key_size = 32; nonce_size = 12; aead_id = 2 })
 
--- how the suite opens a mail in mode Base, with this private key and info
+-- how the suite opens a mail with this private key and info
 abbrev pub opener : List ℕ → List ℕ → Opener
-opener key info = record {
-  key_size = 32;
-  context_of = λ encapped. receiver_setup suite mode_base info [] [] (mask_decap key None encapped);
-  open_of = open_of;
-}
+opener key info = opener_of suite info 32 (mask_decap key None) open_of
 
 -- a text begins with a head, and a mail follows that opens to these messages: the private key is the
 -- first 32 bytes of the seed
@@ -33,6 +29,13 @@ pub record HoldsMail (text : List ℕ) (messages : List (List ℕ)) : Type 0 whe
   pub rest : List ℕ
   pub head : IsHead text seed info rest
   pub opens : Opens (opener (take 32 seed) info) rest mail_budget messages
+
+-- the lines of statuses 2 and 3
+abbrev pub no_command_line : List ℕ
+no_command_line = codes "! words" ++ 10 ∷ []
+
+abbrev pub no_mail_line : List ℕ
+no_mail_line = codes "! NotMail" ++ 10 ∷ []
 
 -- status 0: a mail was opened, and each message is a line
 pub record IsOpened (words : List (List ℕ)) (text : List ℕ) (status : ℕ) (output : List ℕ) : Type 0 where
@@ -46,14 +49,14 @@ pub record IsOpened (words : List (List ℕ)) (text : List ℕ) (status : ℕ) (
 pub record IsNoCommand (words : List (List ℕ)) (status : ℕ) (output : List ℕ) : Type 0 where
   pub command : IsOpen words → ⊥
   pub status_is : status ≡ 2
-  pub output_is : output ≡ codes "! words" ++ 10 ∷ []
+  pub output_is : output ≡ no_command_line
 
 -- status 3: the text doesn't begin with a head and a mail
 pub record IsNoMail (words : List (List ℕ)) (text : List ℕ) (status : ℕ) (output : List ℕ) : Type 0 where
   pub command : IsOpen words
   pub mail : (messages : List (List ℕ)) → HoldsMail text messages → ⊥
   pub status_is : status ≡ 3
-  pub output_is : output ≡ codes "! NotMail" ++ 10 ∷ []
+  pub output_is : output ≡ no_mail_line
 
 -- what is owed
 abbrev pub Due : List (List ℕ) → List ℕ → ℕ → List ℕ → Type 0

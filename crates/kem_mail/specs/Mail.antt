@@ -4,7 +4,7 @@ use Rattle.std.specs.Option.{option_map}
 use Rattle.std.specs.Str.{bytes_eq}
 use Rattle.age_core.specs.Stanza.{Stanza}
 use Rattle.age_core.specs.Reading.{Reads, Before_done}
-use Rattle.hpke.specs.Schedule.{Context}
+use Rattle.hpke.specs.Schedule.{Suite, Context, mode_base, receiver_setup}
 use Rattle.hpke.specs.Nonce.{nonce_of}
 use Rattle.hpke.specs.Messages.{used}
 
@@ -29,6 +29,15 @@ pub record Opener : Type 0 where
   pub key_size : ℕ
   pub context_of : List ℕ → Option Context
   pub open_of : List ℕ → List ℕ → List ℕ → List ℕ → Option (List ℕ)
+
+-- how a suite opens a mail in mode Base with an info: by the length of an encapsulated key, the secret
+-- that a private key finds in one, and what a sealed text opens to
+abbrev pub opener_of : Suite → List ℕ → ℕ → (List ℕ → Option (List ℕ)) → (List ℕ → List ℕ → List ℕ → List ℕ → Option (List ℕ)) → Opener
+opener_of suite info key_size decap open_of = record {
+  key_size = key_size;
+  context_of = λ key. receiver_setup suite mode_base info (decap key);
+  open_of = open_of;
+}
 
 -- The messages of a mail with these encapsulated keys and these sealed messages: there is exactly
 -- one encapsulated key, of this size, and under its context all sealed messages open.

@@ -1,14 +1,14 @@
 //! Opening a mail.
 
-ghost use Rattle.std.specs.Prelude.{◌≡◌, ◌≢◌, ◌≤◌, ◌↔◌, ℕ, List, [], ◌∷◌, ◌++◌, length, map, drop, codes, Some, None, Option, IfOk, IfErr, IfNone, IfSome, IsTrue, IsErrOf, OnOk, ◌⊎◌};
+ghost use Rattle.std.specs.Prelude.{◌≡◌, ◌≢◌, ◌≤◌, ◌<◌, ℕ, List, [], length, map, take, drop, codes, Some, None, Option, IfOk, IfErr, IfNone, IfSome, IsTrue, IsErrOf, OnOk, ◌⊎◌};
 ghost use Rattle.std.specs.Option.{option_copied};
 ghost use Rattle.std.specs.Str.{bytes_eq};
-ghost use Rattle.age_core.specs.Reading.{NoneDone};
+ghost use Rattle.age_core.specs.Reading.{NoneDone, HasNoDone};
 ghost use Rattle.age_core.specs.Outside.{Rose};
 ghost use Rattle.age_core.specs.Stanza.{stanza_of};
-ghost use Rattle.hpke.specs.Schedule.{Suite, mode_base, receiver_setup};
+ghost use Rattle.hpke.specs.Schedule.{suite_of};
 ghost use Rattle.hpke.specs.Messages.{used};
-ghost use Rattle.kem_mail.specs.Mail.{Opens, bodies, judged, open_next, opened};
+ghost use Rattle.kem_mail.specs.Mail.{Opener, Opens, bodies, judged, open_next, opened, opener_of};
 ghost use Rattle.kem_mail.specs.Taking.{EndsAt, IsOnly, Judges};
 
 use crate::error::MailError;
@@ -121,21 +121,9 @@ fn judge<'a, K: Kem, D: Kdf, A: Aead>(
     info: &[u8],
     stanzas: &[Stanza],
 ) -> Result<MessageList, MailError>
-    ensures { let suite : Suite = record {
-      hash = D.HashImpl.hash_of;
-      block_size = D.HashImpl.BLOCK_SIZE;
-      digest_size = D.HashImpl.DIGEST_SIZE;
-      key_size = A.AeadImpl.KEY_SIZE;
-      nonce_size = A.AeadImpl.NONCE_SIZE;
-      kem_id = K.KEM_ID;
-      kdf_id = D.KDF_ID;
-      aead_id = A.AEAD_ID;
-    } in Judges (λ messages. messages) result
-        (judged (record {
-          key_size = K.EncappedKey.wire_size;
-          context_of = λ key. receiver_setup suite mode_base info.now [] [] (K.decap_of (K.PrivateKey.bytes sk.now) None key);
-          open_of = A.AeadImpl.open_of;
-        }) (bodies (codes "kem") (map stanza_of stanzas.now)) (bodies (codes "msg") (map stanza_of stanzas.now))) }
+    ensures { let opener : Opener = opener_of (suite_of K.KEM_ID D.kdf A.aead) info.now K.EncappedKey.wire_size
+        (K.decap_of (K.PrivateKey.bytes sk.now) None) A.AeadImpl.open_of in Judges (λ messages. messages) result
+        (judged opener (bodies (codes "kem") (map stanza_of stanzas.now)) (bodies (codes "msg") (map stanza_of stanzas.now))) }
 {
     let Some(encoded) = key_of(stanzas) else {
         return Err(MailError::NotMail);
@@ -166,36 +154,16 @@ pub fn open_with<K: Kem, D: Kdf, A: Aead, S: Source>(
     src: &mut S,
     budget: u64,
 ) -> Result<MessageList, MailError>
-    ensures plain { let suite : Suite = record {
-      hash = D.HashImpl.hash_of;
-      block_size = D.HashImpl.BLOCK_SIZE;
-      digest_size = D.HashImpl.DIGEST_SIZE;
-      key_size = A.AeadImpl.KEY_SIZE;
-      nonce_size = A.AeadImpl.NONCE_SIZE;
-      kem_id = K.KEM_ID;
-      kdf_id = D.KDF_ID;
-      aead_id = A.AEAD_ID;
-    } in IfOk result (λ messages. IfSome (S.left src.old) (λ text. Opens (record {
-      key_size = K.EncappedKey.wire_size;
-      context_of = λ key. receiver_setup suite mode_base info.now [] [] (K.decap_of (K.PrivateKey.bytes sk.now) None key);
-      open_of = A.AeadImpl.open_of;
-    }) text budget messages)) }
-    ensures not_mail { let suite : Suite = record {
-      hash = D.HashImpl.hash_of;
-      block_size = D.HashImpl.BLOCK_SIZE;
-      digest_size = D.HashImpl.DIGEST_SIZE;
-      key_size = A.AeadImpl.KEY_SIZE;
-      nonce_size = A.AeadImpl.NONCE_SIZE;
-      kem_id = K.KEM_ID;
-      kdf_id = D.KDF_ID;
-      aead_id = A.AEAD_ID;
-    } in IsErrOf result MailError.NotMail → IfSome (S.left src.old) (λ text.
-        (messages : List (List ℕ)) → Opens (record {
-          key_size = K.EncappedKey.wire_size;
-          context_of = λ key. receiver_setup suite mode_base info.now [] [] (K.decap_of (K.PrivateKey.bytes sk.now) None key);
-          open_of = A.AeadImpl.open_of;
-        }) text budget messages → ⊥) }
+    ensures plain { let opener : Opener = opener_of (suite_of K.KEM_ID D.kdf A.aead) info.now K.EncappedKey.wire_size
+        (K.decap_of (K.PrivateKey.bytes sk.now) None) A.AeadImpl.open_of in
+        IfOk result (λ messages. IfSome (S.left src.old) (λ text. Opens opener text budget messages)) }
+    ensures not_mail { let opener : Opener = opener_of (suite_of K.KEM_ID D.kdf A.aead) info.now K.EncappedKey.wire_size
+        (K.decap_of (K.PrivateKey.bytes sk.now) None) A.AeadImpl.open_of in
+        IsErrOf result MailError.NotMail → IfSome (S.left src.old) (λ text. (messages : List (List ℕ)) → Opens opener text budget messages → ⊥) }
     ensures read_fault { IsErrOf result MailError.ReadFault → Rose (S.faults src.old) (S.faults src.new) }
+    // The bytes that were taken before the fault, fewer than the budget, hold no whole `done`.
+    ensures read_part { IsErrOf result MailError.ReadFault → IfSome (S.left src.old) (λ text. (n : ℕ) × (n < budget)
+        × (S.left src.new ≡ Some (drop n text)) × (rest : List ℕ) × HasNoDone (take n text) rest) }
     // At most the budget was taken.
     ensures taken { IfSome (S.left src.old) (λ text. (n : ℕ) × (n ≤ budget) × (S.left src.new ≡ Some (drop n text))) }
     ensures faults { S.faults src.old ≤ S.faults src.new }

@@ -4,7 +4,7 @@ ghost use Rattle.std.specs.Prelude.{◌≡◌, ◌≤◌, ◌⊎◌, ◌↔◌, 
 ghost use Rattle.std.specs.String.{string_bytes};
 ghost use Rattle.age_core.specs.Outside.{Rose, Gains, GainsPart};
 ghost use Rattle.kem_mail.specs.Command.{IsOpen};
-ghost use Rattle.kem_mail.specs.Due.{Due, HoldsMail, IsAnswer};
+ghost use Rattle.kem_mail.specs.Due.{Due, HoldsMail, IsAnswer, no_command_line, no_mail_line};
 ghost use Rattle.kem_mail.specs.Lines.{lines};
 ghost use Rattle.kem_mail.specs.Taking.{IsRefused, IsTold};
 
@@ -87,6 +87,7 @@ fn open_source<S: Source>(alloc: Global, src: &mut S) -> Result<MessageList, Mai
 fn tell<W: Sink>(out: &mut W, line: &[u8], status: u8) -> u8
     ensures told { IsTold result status (W.faults out.old) (W.faults out.new) (W.got out.old) (W.got out.new) line.now }
     ensures plan { W.plan out.new ≡ W.plan out.old }
+    ensures faults { W.faults out.old ≤ W.faults out.new }
 {
     match write_all(out, line) {
         Ok(()) => status,
@@ -98,6 +99,7 @@ fn tell<W: Sink>(out: &mut W, line: &[u8], status: u8) -> u8
 fn tell_messages<W: Sink>(out: &mut W, messages: &MessageList) -> u8
     ensures told { IsTold result 0 (W.faults out.old) (W.faults out.new) (W.got out.old) (W.got out.new) (lines messages.now) }
     ensures plan { W.plan out.new ≡ W.plan out.old }
+    ensures faults { W.faults out.old ≤ W.faults out.new }
 {
     match write_lines(out, messages) {
         Ok(()) => DONE,
@@ -109,6 +111,7 @@ fn tell_messages<W: Sink>(out: &mut W, messages: &MessageList) -> u8
 fn refuse<W: Sink>(out: &mut W, error: MailError) -> u8
     ensures refused { IsRefused error result (W.faults out.old) (W.faults out.new) (W.got out.old) (W.got out.new) }
     ensures plan { W.plan out.new ≡ W.plan out.old }
+    ensures faults { W.faults out.old ≤ W.faults out.new }
 {
     match error {
         MailError::NotMail => tell(out, NO_MAIL_LINE, NO_MAIL),
@@ -146,12 +149,18 @@ pub fn mail_main<S: Source, W: Sink>(
     ensures write_part { IfSome (S.left src.old) (λ text. result ≡ 5 → (status : ℕ) × (output : List ℕ)
         × Due (map string_bytes words.now) text status output × GainsPart (W.got out.old) (W.got out.new) output) }
 
+    // The lines of statuses 2 and 3 are fixed, whatever the source tells.
+    ensures command_line { result ≡ 2 → Gains (W.got out.old) (W.got out.new) no_command_line }
+    ensures mail_line { result ≡ 3 → Gains (W.got out.old) (W.got out.new) no_mail_line }
+
     // Want of memory, and nothing written.
     ensures memory { result ≡ 6 → Gains (W.got out.old) (W.got out.new) [] }
 
-    // The words alone decide on status 2, whatever the source tells.
+    // The words alone decide on status 2, whatever the source tells, and then nothing is read.
     ensures command { result ≡ 2 → IsOpen (map string_bytes words.now) → ⊥ }
     ensures no_command { (IsOpen (map string_bytes words.now) → ⊥) → (result ≡ 2) ⊎ (result ≡ 5) }
+
+    ensures unread { (IsOpen (map string_bytes words.now) → ⊥) → src.new ≡ src.old }
 
     // A head and a mail, with no fault, are opened, unless memory runs out.
     ensures complete { IfSome (S.left src.old) (λ text. (messages : List (List ℕ)) → IsOpen (map string_bytes words.now)
@@ -159,6 +168,8 @@ pub fn mail_main<S: Source, W: Sink>(
         → (Rose (W.faults out.old) (W.faults out.new) → ⊥) → (result ≡ 0) ⊎ (result ≡ 6)) }
 
     ensures no_other { IsAnswer result ⊎ ((result ≡ 4) ⊎ ((result ≡ 5) ⊎ (result ≡ 6))) }
+    ensures source_faults { S.faults src.old ≤ S.faults src.new }
+    ensures sink_faults { W.faults out.old ≤ W.faults out.new }
     ensures plan { W.plan out.new ≡ W.plan out.old }
 {
     if !is_open(words) {

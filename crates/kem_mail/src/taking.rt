@@ -94,7 +94,8 @@ fn read_more<S: Source>(src: &mut S, most: u64, bytes: &mut Vec<u8>) -> Result<u
 pub fn read_within<S: Source>(alloc: Global, src: &mut S, budget: u64) -> Result<Held, MailError>
     ensures front { IfOk result (λ held. IfSome (S.left src.old) (λ text. TookFront text (S.left src.new) budget held.bytes.items)) }
     ensures whole { IfOk result (λ held. held.stop ≡ Stop.End → IfSome (S.left src.old) (λ text. held.bytes.items ≡ take budget text)) }
-    ensures fault { IfOk result (λ held. held.stop ≡ Stop.Fault → Rose (S.faults src.old) (S.faults src.new)) }
+    ensures fault { IfOk result (λ held. held.stop ≡ Stop.Fault → Rose (S.faults src.old) (S.faults src.new)
+        × (length held.bytes.items < budget)) }
     ensures memory { IfErr result (λ e. e ≡ MailError.NoMemory) }
     ensures any { IfSome (S.left src.old) (λ text. (n : ℕ) × (n ≤ budget) × (S.left src.new ≡ Some (drop n text))) }
     ensures faults { S.faults src.old ≤ S.faults src.new }

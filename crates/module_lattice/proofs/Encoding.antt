@@ -1,19 +1,19 @@
 -- Vectors in bytes, polynomial by polynomial.
-use Rattle.std.proofs.Common.{◌≡◌, ◌≢◌, ℕ, zero, suc, ◌+◌, ◌*◌, ◌^◌, ◌<◌, ◌≤◌, inl, inr, All, map, ap₂, List, [], ◌∷◌, ◌++◌, length, take, drop, get_or, slice_get, Some, if◌then◌else◌, refl, sym, ap, ◌∙◌, arith, append-nil, mul-le-mul_left, mul-zero, take_all, drop-drop}
+use Rattle.std.proofs.Common.{◌≡◌, ◌≢◌, ◌⊎◌, ℕ, zero, suc, ◌+◌, ◌*◌, ◌^◌, ◌<◌, ◌≤◌, inl, inr, All, map, subst, ap₂, length-drop, length-take-le, List, [], ◌∷◌, ◌++◌, length, take, drop, get_or, slice_get, Some, if◌then◌else◌, refl, sym, ap, ◌∙◌, arith, append-nil, mul-le-mul_left, mul-zero, take_all, drop-drop}
 use Rattle.std.specs.List.{flat_map}
 use Rattle.std.proofs.Math.Seq.{drop-append_seam, take-append_seam}
 use Rattle.std.proofs.lemmas.Bool.{cases_eq, cases_lt, eq-eqb, ne_eqb}
 use Rattle.std.proofs.lemmas.Bool.Decides.{nat_tests}
-use Rattle.std.proofs.lemmas.List.Elements.{All-cons, All-head, All-map, All-same, All-tail, All-weaker}
+use Rattle.std.proofs.lemmas.List.Elements.{All-append, All-cons, All-head, All-map, All-nil, All-same, All-tail, All-weaker}
 use Rattle.std.proofs.lemmas.Grind.{flat_map-append}
-use Rattle.std.proofs.lemmas.List.{take_more}
+use Rattle.std.proofs.lemmas.List.{length-map, take_more}
 use Rattle.std.proofs.lemmas.Option.{get_or_from_slice_get}
 use Rattle.std.proofs.lemmas.Slice.{take-put_mid}
 use borrow.Rule.Slice.PartMut.{put_mid}
 use Rattle.module_lattice.specs.Groups.{decode12, decoded, decoded_each, groups, reduced_once, ungroup}
 use Rattle.module_lattice.specs.Ring.{IsPolynomial}
 use Rattle.module_lattice.proofs.Regrouping.{All-regroup, length-regroup, regroup-regroup}
-use Rattle.module_lattice.proofs.Units.{decode12-groups}
+use Rattle.module_lattice.proofs.Units.{All-narrow, All-reduced, decode12-groups}
 use Rattle.module_lattice.proofs.Vectors.{pushed}
 
 -- at 12 bits and at others
@@ -117,3 +117,62 @@ pub decoded_done : (q d count : ℕ) (bytes : List ℕ) (i : ℕ) (out : List (L
     → out ≡ take i (decoded_each q d count bytes) → out ≡ decoded_each q d count bytes
 decoded_done q d count bytes i out all made =
     made ∙ take_all i (decoded_each q d count bytes) (rw (length-decoded_each q d count bytes) all)
+
+-- ---- what is decoded is a polynomial
+
+abbrev pub Width : ℕ → ℕ → Type 0
+Width q d = (2 ^ d ≤ q) ⊎ ((d ≡ 12) × (4096 ≤ 2 * q))
+
+length-ungroup : (d : ℕ) (bytes : List ℕ) → 1 ≤ d → length bytes ≡ 32 * d → length (ungroup d bytes) ≡ 256
+unfolding ungroup
+length-ungroup d bytes positive long = length-regroup 8 d 256 bytes positive (ap (λ (k : ℕ). 8 * k) long ∙ omega arith)
+
+polynomial-12 : (q : ℕ) (bytes : List ℕ) → (2 ^ 12 ≤ q) ⊎ (4096 ≤ 2 * q) → length bytes ≡ 32 * 12 → IsPolynomial q (decode12 q bytes)
+unfolding decode12 ungroup
+polynomial-12 q bytes fits long = record {
+  size = length-map (ungroup 12 bytes) (reduced_once q) ∙ length-ungroup 12 bytes (omega arith) long;
+  each = All-reduced q (ungroup 12 bytes) fits (All-regroup 8 12 bytes);
+}
+
+polynomial-narrow : (q d : ℕ) (bytes : List ℕ) → 1 ≤ d → 2 ^ d ≤ q → length bytes ≡ 32 * d → IsPolynomial q (ungroup d bytes)
+unfolding ungroup
+polynomial-narrow q d bytes positive fits long = record {
+  size = length-ungroup d bytes positive long;
+  each = All-narrow q d (ungroup d bytes) fits (All-regroup 8 d bytes);
+}
+
+polynomial-decoded : (q d : ℕ) (bytes : List ℕ) → 1 ≤ d → Width q d → length bytes ≡ 32 * d → IsPolynomial q (decoded q d bytes)
+polynomial-decoded q d bytes positive width long = elim (cases_eq d 12) [
+  | inl is ↦
+      let fits : (2 ^ 12 ≤ q) ⊎ (4096 ≤ 2 * q) = elim width [
+        | inl narrow ↦ inl (rw is at narrow)
+        | inr wide ↦ inr wide.1
+      ] in
+      subst (IsPolynomial q) (sym (decoded-12 q d bytes is)) (polynomial-12 q bytes fits (long ∙ ap (λ (k : ℕ). 32 * k) is))
+  | inr not ↦
+      let fits : 2 ^ d ≤ q = elim width [
+        | inl narrow ↦ narrow
+        | inr wide ↦ absurd (not wide.0)
+      ] in
+      subst (IsPolynomial q) (sym (decoded-other q d bytes not)) (polynomial-narrow q d bytes positive fits long)
+]
+
+pub All-polynomials : (q d count : ℕ) (bytes : List ℕ) → 1 ≤ d → Width q d → length bytes ≡ 32 * d * count
+    → All (IsPolynomial q) (decoded_each q d count bytes)
+All-polynomials q d zero bytes positive width long = All-nil (IsPolynomial q)
+All-polynomials q d (suc count) bytes positive width long =
+    let size : ℕ = 32 * d in
+    All-cons (IsPolynomial q) (decoded q d (take (32 * d) bytes)) (decoded_each q d count (drop (32 * d) bytes))
+    (polynomial-decoded q d (take (32 * d) bytes) positive width (length-take-le (32 * d) bytes (omega arith)))
+    (All-polynomials q d count (drop (32 * d) bytes) positive width (length-drop (32 * d) bytes ∙ omega arith))
+
+-- one polynomial
+pub All-one : (q : ℕ) (f g : List ℕ) → f ≡ g → IsPolynomial q g → All (IsPolynomial q) (f ∷ [])
+All-one q f g same is = All-cons (IsPolynomial q) f [] (subst (IsPolynomial q) (sym same) is) (All-nil (IsPolynomial q))
+
+-- one polynomial more
+pub All-one-more : (q i : ℕ) (fs : List (List ℕ)) (g : List ℕ) → i < length fs → slice_get fs i ≡ Some g → IsPolynomial q g
+    → All (IsPolynomial q) (take i fs) → All (IsPolynomial q) (take (i + 1) fs)
+All-one-more q i fs g within at is each =
+    subst (All (IsPolynomial q)) (sym (take_more fs i g within ∙ ap (λ h. take i fs ++ h ∷ []) (get_or_from_slice_get fs i g g at)))
+    (All-append (IsPolynomial q) (take i fs) (g ∷ []) each (All-one q g g refl is))

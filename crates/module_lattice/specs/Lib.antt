@@ -10,3 +10,5 @@ pub mod Bits
 pub mod Groups
 -- the law of the products in the transform domain: a proof, and no definitions
 pub mod PairLaws
+-- products that an independent model worked
+pub mod Worked

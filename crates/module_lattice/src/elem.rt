@@ -4,7 +4,7 @@ ghost use Rattle.std.specs.Prelude.{◌≡◌, ◌<◌};
 ghost use Rattle.module_lattice.specs.Ring.{plus, minus, negated, times};
 
 use crate::field::Field;
-use ctutils::{Choice, CtEq, CtEqSlice};
+use ctutils::{Choice, CtEq, CtEqAgrees, CtEqSlice};
 use std::marker::{Model, PhantomData};
 use std::ops::{Add, Mul, Neg, Sub};
 
@@ -102,3 +102,9 @@ impl<F: Field> CtEq for Elem<F> {
 }
 
 impl<F: Field> CtEqSlice for Elem<F> {}
+
+impl<F: Field> CtEqAgrees for Elem<F> {
+    ghost use Rattle.std.proofs.Common.{rules};
+
+    ghost agrees = { Prim.search rules };
+}

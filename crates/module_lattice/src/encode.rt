@@ -3,6 +3,7 @@
 ghost use Rattle.std.specs.Prelude.{◌≡◌, ◌⊎◌, ◌*◌, ◌^◌, ◌<◌, ◌≤◌, ℕ, List, All, IfOk, IsErr, length};
 ghost use Rattle.std.specs.List.{flat_map};
 ghost use Rattle.module_lattice.specs.Groups.{decoded, decoded_each, groups, lcm};
+ghost use Rattle.module_lattice.specs.Ring.{IsPolynomial};
 
 use crate::coefficients::DEGREE;
 use crate::field::Field;
@@ -32,14 +33,15 @@ pub trait Encode: Sized + Drop {
     ghost takes_memory: { Type 0 };
 
     /// Writes each polynomial, whose coefficients are below 2^d, into 32·d bytes, one polynomial after
-    /// another.
+    /// another. The polynomials of any value are 256 numbers below Q each.
     fn encode(&self, d: usize, out: &mut [u8])
         requires positive { 1 ≤ d }
         requires unit { lcm d 8 ≤ 128 }
         requires width { (2 ^ d ≤ Q) ⊎ ((d ≡ 12) × (4096 ≤ 2 * Q)) }
         requires in_width { All (λ f. All (λ x. x < 2 ^ d) f) (polynomials self.now) }
         requires room { length out.old ≡ 32 * d * length (polynomials self.now) }
-        ensures { out.new ≡ flat_map (groups d) (polynomials self.now) };
+        ensures bytes { out.new ≡ flat_map (groups d) (polynomials self.now) }
+        ensures polynomials { All (IsPolynomial Q) (polynomials self.now) };
 
     /// The value of `count` polynomials of 32·d bytes each: of one where the value is a polynomial. It
     /// is refused at want of memory alone, and a polynomial takes none.
@@ -52,6 +54,7 @@ pub trait Encode: Sized + Drop {
         ensures value { IfOk result (λ value. polynomials value ≡ decoded_each Q d count bytes.now) }
         ensures count { IfOk result (λ value. length (polynomials value) ≡ count) }
         ensures in_width { IfOk result (λ value. All (λ f. All (λ x. x < 2 ^ d) f) (polynomials value)) }
+        ensures polynomials { IfOk result (λ value. All (IsPolynomial Q) (polynomials value)) }
         ensures memory { IsErr result → takes_memory };
 }
 
@@ -183,7 +186,7 @@ fn decode_one<F: Field>(d: usize, bytes: &[u8]) -> [u32; DEGREE]
     requires bytes { length bytes.now ≡ 32 * d }
     ensures value { result ≡ decoded F.Q d bytes.now }
     ensures in_width { All (λ x. x < 2 ^ d) result }
-    ensures in_field { All (λ x. x < F.Q) result }
+    ensures polynomial { IsPolynomial F.Q result }
 {
     let mut values = [0; DEGREE];
     byte_decode::<F>(d, bytes, &mut values);

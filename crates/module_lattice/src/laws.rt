@@ -1,20 +1,30 @@
-//! What holds of elements, of products by powers of X, of equality at each type, and of packed numbers.
+//! What holds of the fields, of elements, of products and of packed numbers.
 
 ghost use Rattle.std.specs.Prelude.{◌≡◌, ◌+◌, ◌-◌, ◌*◌, ◌/◌, ◌%◌, ◌^◌, ◌<◌, ◌≤◌, ◌++◌, ℕ, All, List, length, map, take, drop, slice_index};
 ghost use Rattle.std.specs.Int.{bit_at};
 ghost use Rattle.std.specs.List.{flat_map};
 ghost use Rattle.module_lattice.specs.Bits.{byte_bit};
 ghost use Rattle.module_lattice.specs.Groups.{decode12, decoded_each, groups, ungroup};
+ghost use Rattle.module_lattice.specs.Pairs.{pair_products};
 ghost use Rattle.module_lattice.specs.Ring.{IsPolynomial, plus, minus, negated, times, power_of_x, product};
+ghost use Rattle.module_lattice.specs.Worked.{worked_f, worked_g, worked_product, transform_of_f, transform_of_g, transform_of_product};
 
 use crate::elem::Elem;
-use crate::field::Field;
-use crate::ntt_matrix::NttMatrix;
-use crate::ntt_polynomial::NttPolynomial;
-use crate::ntt_vector::NttVector;
-use crate::polynomial::Polynomial;
-use crate::vector::Vector;
-use ctutils::CtEq;
+use crate::field::{BaseField, Field, Field8380417};
+
+/// The moduli are those of the standards (FIPS 203, section 2.3: 2^8·13 + 1; FIPS 204, section 2.3:
+/// 2^23 - 2^13 + 1). Each multiplier of a reduction is 2 to the shift over the modulus, rounded down,
+/// and each limit is 2·(Q - 1)^2.
+pub fn moduli()
+    ensures base_modulus { ⟦<BaseField as Field>⟧.Q ≡ 3329 }
+    ensures base_shift { ⟦<BaseField as Field>⟧.BARRETT_SHIFT ≡ 24 }
+    ensures base_multiplier { ⟦<BaseField as Field>⟧.BARRETT_MULTIPLIER ≡ 2 ^ 24 / 3329 }
+    ensures base_limit { ⟦<BaseField as Field>⟧.BARRETT_LIMIT ≡ 2 * 3328 ^ 2 }
+    ensures modulus { ⟦<Field8380417 as Field>⟧.Q ≡ 8380417 }
+    ensures shift { ⟦<Field8380417 as Field>⟧.BARRETT_SHIFT ≡ 46 }
+    ensures multiplier { ⟦<Field8380417 as Field>⟧.BARRETT_MULTIPLIER ≡ 2 ^ 46 / 8380417 }
+    ensures limit { ⟦<Field8380417 as Field>⟧.BARRETT_LIMIT ≡ 2 * 8380416 ^ 2 }
+{}
 
 /// Addition and multiplication of elements commute and associate, and multiplication distributes
 /// over addition.
@@ -45,14 +55,11 @@ pub fn powers_of_x()
         → product q f (power_of_x k) ≡ map (negated q) (drop (256 - k) f) ++ take (256 - k) f }
 {}
 
-/// `==` and `ct_eq` agree at each type.
-pub fn ct_eq_agrees<F: Field>()
-    ensures elements { (a b : ℕ) → ⟦<Elem<F> as CtEq>⟧.ct_eq a b ≡ ⟦<Elem<F> as PartialEq>⟧.eq a b }
-    ensures polynomials { (f g : List ℕ) → ⟦<Polynomial<F> as CtEq>⟧.ct_eq f g ≡ ⟦<Polynomial<F> as PartialEq>⟧.eq f g }
-    ensures ntt_polynomials { (f g : List ℕ) → ⟦<NttPolynomial<F> as CtEq>⟧.ct_eq f g ≡ ⟦<NttPolynomial<F> as PartialEq>⟧.eq f g }
-    ensures vectors { (u v : List (List ℕ)) → ⟦<Vector<F> as CtEq>⟧.ct_eq u v ≡ ⟦<Vector<F> as PartialEq>⟧.eq u v }
-    ensures ntt_vectors { (u v : List (List ℕ)) → ⟦<NttVector<F> as CtEq>⟧.ct_eq u v ≡ ⟦<NttVector<F> as PartialEq>⟧.eq u v }
-    ensures ntt_matrices { (m n : List (List (List ℕ))) → ⟦<NttMatrix<F> as CtEq>⟧.ct_eq m n ≡ ⟦<NttMatrix<F> as PartialEq>⟧.eq m n }
+/// The product of two polynomials modulo X^256 + 1, and that of their transforms, are those of an
+/// independent model.
+pub fn worked_products()
+    ensures product { product 3329 worked_f worked_g ≡ worked_product }
+    ensures pairs { pair_products transform_of_f transform_of_g ≡ transform_of_product }
 {}
 
 /// Bit d·i + j of packed bytes is bit j of number i, where the numbers make whole bytes (FIPS 203,

@@ -8,7 +8,7 @@ use std::marker::Model;
 use std::ops::{Deref, DerefMut};
 
 /// A box, which contracts see as its value.
-#[derive(Debug, Drop)]
+#[derive(Clone, Debug, Drop)]
 pub struct MaybeBox<T> {
     boxed: Box<T>,
 }

@@ -6,7 +6,7 @@ ghost use Rattle.module_lattice.specs.Vectors.{matrix_product, RowsHaveLength};
 use crate::field::Field;
 use crate::multiply_ntt::MultiplyNtt;
 use crate::ntt_vector::NttVector;
-use ctutils::{Choice, CtEq, CtEqSlice};
+use ctutils::{Choice, CtEq, CtEqAgrees, CtEqSlice};
 use std::alloc::AllocError;
 use std::marker::Model;
 
@@ -101,4 +101,12 @@ impl<F: Field> CtEq for NttMatrix<F> {
     fn ct_eq(&self, other: &Self) -> Choice {
         NttVector::<F>::ct_eq_slice(self.rows.as_slice(), other.rows.as_slice())
     }
+}
+
+impl<F: Field> CtEqSlice for NttMatrix<F> {}
+
+impl<F: Field> CtEqAgrees for NttMatrix<F> {
+    ghost use Rattle.std.proofs.Common.{rules};
+
+    ghost agrees = { Prim.search rules };
 }

@@ -6,7 +6,7 @@ ghost use Rattle.module_lattice.specs.Vectors.{vector_sum, vector_difference, ve
 use crate::field::Field;
 use crate::multiply_ntt::MultiplyNtt;
 use crate::ntt_polynomial::NttPolynomial;
-use ctutils::{Choice, CtEq, CtEqSlice};
+use ctutils::{Choice, CtEq, CtEqAgrees, CtEqSlice};
 use std::alloc::AllocError;
 use std::marker::Model;
 
@@ -143,3 +143,9 @@ impl<F: Field> CtEq for NttVector<F> {
 }
 
 impl<F: Field> CtEqSlice for NttVector<F> {}
+
+impl<F: Field> CtEqAgrees for NttVector<F> {
+    ghost use Rattle.std.proofs.Common.{rules};
+
+    ghost agrees = { Prim.search rules };
+}

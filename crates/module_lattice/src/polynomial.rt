@@ -6,7 +6,7 @@ ghost use Rattle.module_lattice.specs.Ring.{IsPolynomial, sum, difference, negat
 use crate::coefficients::{self, DEGREE};
 use crate::elem::Elem;
 use crate::field::Field;
-use ctutils::{Choice, CtEq, CtEqSlice};
+use ctutils::{Choice, CtEq, CtEqAgrees, CtEqSlice};
 use std::marker::{Model, PhantomData};
 use std::ops::{Add, Mul, Neg, Sub};
 
@@ -140,3 +140,9 @@ impl<F: Field> CtEq for Polynomial<F> {
 }
 
 impl<F: Field> CtEqSlice for Polynomial<F> {}
+
+impl<F: Field> CtEqAgrees for Polynomial<F> {
+    ghost use Rattle.std.proofs.Common.{rules};
+
+    ghost agrees = { Prim.search rules };
+}

@@ -1,6 +1,7 @@
 // Products in the transform domain, a butterfly, low bits and a box.
 
 ghost use Rattle.std.specs.Prelude.{◌≡◌, ◌+◌, ◌<◌};
+ghost use Rattle.module_lattice.specs.Ring.{butterfly};
 
 use crate::{
     BaseField, Butterflies, Elem, Field, Field8380417, MaybeBox, MultiplyNtt, NttPolynomial,
@@ -38,14 +39,27 @@ fn two_terms(a: u32, b: u32) -> Polynomial<BaseField>
     f
 }
 
-// A butterfly at 0 and 128, and its steps counted from 0.
-fn first_step<F: Field, B: Butterflies<F>, L: Ledger>(values: &mut B, zeta: Elem<F>, blank: Blank)
+// A butterfly at 0 and 128 of any values, counted by the counter that is handed in.
+fn first_step<F: Field, L: Ledger, B: Butterflies<F, L>>(
+    values: &mut B,
+    zeta: Elem<F>,
+    steps: &mut Steps<L>,
+)
+    ensures value { B.values values.new ≡ butterfly F.Q 0 128 zeta (B.values values.old) }
+    ensures counted { steps.new ≡ steps.old + 1 }
+{
+    values.butterfly(0, 128, zeta, steps);
+}
+
+// The same of a polynomial, with a counter that is opened here.
+fn counted_step<F: Field, L: Ledger>(values: &mut Polynomial<F>, zeta: Elem<F>, blank: Blank)
     requires name { blank.name ≡ L.name }
     requires parts { blank.parts ≡ L.parts }
     requires some { 0 < blank.parts }
+    ensures { values.new ≡ butterfly F.Q 0 128 zeta values.old }
 {
     let mut steps = Steps::<L>::new(blank);
-    values.butterfly(0, 128, zeta, &mut steps);
+    first_step(values, zeta, &mut steps);
 }
 
 fn low<T, U: Truncate<T>>(x: T) -> U {
@@ -90,7 +104,7 @@ fn ones_but(first: u32, second: u32) -> [u32; 256] {
 #[test]
 fn one_butterfly(rt: HostRuntime) {
     let mut f = polynomial::<BaseField>(&rt, ones_but(5, 7));
-    first_step::<_, _, Brand>(&mut f, Elem::new(1729), Blank::new(1));
+    counted_step::<_, Brand>(&mut f, Elem::new(1729), Blank::new(1));
     assert!(rt; f == polynomial(&rt, ones_but(2121, 1218)));
 }
 
@@ -98,7 +112,7 @@ fn one_butterfly(rt: HostRuntime) {
 #[test]
 fn one_butterfly_of_the_wider_field(rt: HostRuntime) {
     let mut f = polynomial::<Field8380417>(&rt, ones_but(5, 7));
-    first_step::<_, _, Brand>(&mut f, Elem::new(1753), Blank::new(1));
+    counted_step::<_, Brand>(&mut f, Elem::new(1753), Blank::new(1));
     assert!(rt; f == polynomial(&rt, ones_but(12276, 8368151)));
 }
 
@@ -120,6 +134,7 @@ fn boxes(rt: HostRuntime) -> Result<(), Fail> {
     assert_eq!(rt; *b, 7);
     assert_eq!(rt; b, MaybeBox::new(rt.alloc(), 7)?);
     *b = 8;
+    assert_eq!(rt; b.clone()?, b);
     assert_eq!(rt; b.into_inner(), 8);
     Ok(())
 }

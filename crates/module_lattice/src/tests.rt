@@ -1,12 +1,13 @@
 // Each call at both fields, through its bound, against sums and products worked by hand.
 
-ghost use Rattle.std.specs.Prelude.{◌*◌, ◌≤◌};
+ghost use Rattle.std.specs.Prelude.{◌≡◌, ◌*◌, ◌^◌, ◌<◌, ◌≤◌, All, IfOk, length};
 
 use crate::{
     BaseField, Elem, Encode, Field, Field8380417, MultiplyNtt, NttMatrix, NttPolynomial, NttVector,
     Polynomial, Vector, laws,
 };
-use ctutils::CtEq;
+use ctutils::laws::ct_eq_agrees;
+use ctutils::{CtEq, CtEqAgrees};
 use std::alloc::{AllocError, Global};
 use std::process::Abort;
 use std::test::Fail;
@@ -60,7 +61,8 @@ fn ntt_vector<F: Field>(
 }
 
 // Values that differ, by `==` and by `ct_eq`.
-fn tells_apart<T: CtEq + PartialEq>(rt: &impl Abort, a: &T, b: &T) {
+fn tells_apart<T: CtEqAgrees>(rt: &impl Abort, a: &T, b: &T) {
+    ct_eq_agrees::<T>();
     assert!(rt; a == a && a != b);
     assert!(rt; a.ct_eq(a).to_bool() && !a.ct_eq(b).to_bool() && a.ct_ne(b).to_bool());
 }
@@ -88,6 +90,7 @@ fn constants(rt: HostRuntime) {
         (46, 8396807)
     );
     assert_eq!(rt; Field8380417::BARRETT_LIMIT, 140462744666112);
+    laws::moduli();
 }
 
 #[test]
@@ -129,7 +132,6 @@ fn elements(rt: HostRuntime) {
     assert_eq!(rt; Elem::<BaseField>::default().get(), 0);
     tells_apart(&rt, &elem::<BaseField>(&rt, 1), &elem(&rt, 2));
     tells_apart(&rt, &elem::<Field8380417>(&rt, 0), &elem(&rt, 8380416));
-    laws::ct_eq_agrees::<BaseField>();
 }
 
 fn polynomials_of<F: Field>(rt: &impl Abort, a: u32, b: u32) {
@@ -285,6 +287,7 @@ fn products(rt: HostRuntime) -> Result<(), Fail> {
     products_of::<BaseField>(&rt, rt.alloc())?;
     matrices_of::<BaseField>(&rt, rt.alloc())?;
     laws::powers_of_x();
+    laws::worked_products();
     Ok(())
 }
 
@@ -303,7 +306,27 @@ fn reads_and_writes<E: Encode>(
     let mut out = vec![in alloc; 0; 384 * count]?;
     value.encode(12, out.as_mut_slice());
     assert!(rt; out.as_slice() == bytes);
+    let _read = writes_and_reads(alloc, &value, count, out.as_mut_slice())?;
     Ok(())
+}
+
+// What is written is read back: by the clauses of the trait and a law, whatever the type.
+fn writes_and_reads<E: Encode>(
+    alloc: Global,
+    value: &E,
+    count: usize,
+    out: &mut [u8],
+) -> Result<E, AllocError>
+    requires width { 4096 ≤ 2 * E.Q }
+    requires count { E.has_count count }
+    requires polynomials { length (E.polynomials value.now) ≡ count }
+    requires in_width { All (λ f. All (λ x. x < 2 ^ 12) f) (E.polynomials value.now) }
+    requires room { length out.old ≡ 384 * count }
+    ensures { IfOk result (λ back. E.polynomials back ≡ E.polynomials value.now) }
+{
+    value.encode(12, out);
+    laws::decodes_what_was_encoded();
+    E::decode(alloc, 12, count, out)
 }
 
 // 3328 and 0 in turn, in 12 bits each.

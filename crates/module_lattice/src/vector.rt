@@ -6,7 +6,7 @@ ghost use Rattle.module_lattice.specs.Vectors.{vector_sum, vector_difference, ve
 use crate::elem::Elem;
 use crate::field::Field;
 use crate::polynomial::Polynomial;
-use ctutils::{Choice, CtEq, CtEqSlice};
+use ctutils::{Choice, CtEq, CtEqAgrees, CtEqSlice};
 use std::alloc::AllocError;
 use std::marker::Model;
 
@@ -129,4 +129,12 @@ impl<F: Field> CtEq for Vector<F> {
     fn ct_eq(&self, other: &Self) -> Choice {
         Polynomial::<F>::ct_eq_slice(self.items.as_slice(), other.items.as_slice())
     }
+}
+
+impl<F: Field> CtEqSlice for Vector<F> {}
+
+impl<F: Field> CtEqAgrees for Vector<F> {
+    ghost use Rattle.std.proofs.Common.{rules};
+
+    ghost agrees = { Prim.search rules };
 }

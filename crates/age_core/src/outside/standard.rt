@@ -1,10 +1,15 @@
 //! The edge over a reader and a writer of the standard library.
 //!
-//! What such a reader or writer held is unknown to every contract: these adapters count faults and
-//! tell nothing.
+//! As a source and a sink they tell nothing. Clauses of their own say what the reader gave and what
+//! was handed to the writer, by what the standard library says of those.
 
-ghost use Rattle.std.specs.Prelude.{◌≡◌, ◌≤◌, ◌<◌, ℕ, List, [], None, Option, length, take, IfOk, IfSome, OnErr};
-ghost use Rattle.age_core.specs.Outside.{Rose, Gives, Gains};
+ghost use Rattle.std.specs.Prelude.{◌≡◌, ◌≤◌, ◌<◌, [], None, length, take, IfOk, IfSome, IfNone, OnErr, OnOk};
+ghost use Rattle.std.specs.Io.KnownBytes.{Consumes, Keeps, Appends, IsAtEnd};
+ghost use Rattle.age_core.specs.Outside.{Rose, Gives, Gains, next_count};
+ghost use Rattle.age_core.specs.Adapters.{AppendsFront};
+
+#[cfg(test)]
+mod tests;
 
 use super::{Failed, Sink, Source};
 use std::io::{ErrorKind, Read, Write};
@@ -20,25 +25,39 @@ pub struct StdSource<R> {
 }
 
 impl<R: Read> StdSource<R> {
-    ghost use Rattle.age_core.specs.Adapters.{source_faults};
+    ghost use Rattle.age_core.specs.Adapters.{source_reader, source_faults};
 
     /// A source with a count of 0. It takes no memory.
     pub fn new(reader: R) -> StdSource<R>
-        ensures { source_faults result ≡ 0 }
+        ensures reader { source_reader result ≡ reader }
+        ensures faults { source_faults result ≡ 0 }
     {
         StdSource { reader, faults: 0 }
     }
 }
 
 impl<R: Read> Source for StdSource<R> {
-    ghost use Rattle.age_core.specs.Adapters.{source_faults};
+    ghost use Rattle.age_core.specs.Adapters.{source_reader, source_faults};
 
     ghost left = { λ _. None };
 
     ghost faults = { source_faults };
 
     /// Reads once; an interrupted call is repeated 16 times at most, and is then a fault.
-    fn read(&mut self, buffer: &mut [u8]) -> Result<usize, Failed> {
+    fn read(&mut self, buffer: &mut [u8]) -> Result<usize, Failed>
+        // The bytes are those that the reader lost, and there are none only at its end.
+        ensures given { IfOk result (λ n. Consumes (R.remaining (source_reader self.old)) (R.remaining (source_reader self.new)) (take n buffer.new)) }
+        ensures ended { IfOk result (λ n. n ≡ 0 → 0 < length buffer.old → IsAtEnd (R.remaining (source_reader self.new))) }
+        ensures kept { OnErr result (Keeps (R.remaining (source_reader self.old)) (R.remaining (source_reader self.new))) }
+
+        // The count rises by one at a failure, up to its last value, and never else.
+        ensures counted { OnErr result (source_faults self.new ≡ next_count (source_faults self.old)) }
+        ensures uncounted { OnOk result (source_faults self.new ≡ source_faults self.old) }
+
+        ensures count { IfOk result (λ n. n ≤ length buffer.old) }
+        ensures failed { OnErr result (Rose (source_faults self.old) (source_faults self.new)) }
+        ensures faults { source_faults self.old ≤ source_faults self.new }
+    {
         if let Some(n) = given(&mut self.reader, buffer) {
             return Ok(n);
         }
@@ -49,7 +68,10 @@ impl<R: Read> Source for StdSource<R> {
 
 /// How many bytes one read gave, or none where it failed or was interrupted too often.
 fn given<R: Read>(reader: &mut R, buffer: &mut [u8]) -> Option<usize>
-    ensures { IfSome result (λ n. n ≤ length buffer.old) }
+    ensures count { IfSome result (λ n. n ≤ length buffer.old) }
+    ensures given { IfSome result (λ n. Consumes (R.remaining reader.old) (R.remaining reader.new) (take n buffer.new)) }
+    ensures ended { IfSome result (λ n. n ≡ 0 → 0 < length buffer.old → IsAtEnd (R.remaining reader.new)) }
+    ensures kept { IfNone result (Keeps (R.remaining reader.old) (R.remaining reader.new)) }
 {
     for _ in 0..=RETRIES {
         match reader.read(buffer) {
@@ -69,18 +91,19 @@ pub struct StdSink<W> {
 }
 
 impl<W: Write> StdSink<W> {
-    ghost use Rattle.age_core.specs.Adapters.{sink_faults};
+    ghost use Rattle.age_core.specs.Adapters.{sink_writer, sink_faults};
 
     /// A sink with a count of 0. It takes no memory.
     pub fn new(writer: W) -> StdSink<W>
-        ensures { sink_faults result ≡ 0 }
+        ensures writer { sink_writer result ≡ writer }
+        ensures faults { sink_faults result ≡ 0 }
     {
         StdSink { writer, faults: 0 }
     }
 }
 
 impl<W: Write> Sink for StdSink<W> {
-    ghost use Rattle.age_core.specs.Adapters.{sink_faults};
+    ghost use Rattle.age_core.specs.Adapters.{sink_writer, sink_faults};
 
     ghost got = { λ _. None };
 
@@ -91,7 +114,20 @@ impl<W: Write> Sink for StdSink<W> {
     /// Writes once and flushes what was taken; an interrupted call is repeated 16 times at most,
     /// and is then a fault. So are a write that takes nothing of a piece that isn't empty, and a
     /// flush that fails.
-    fn write(&mut self, piece: &[u8]) -> Result<usize, Failed> {
+    fn write(&mut self, piece: &[u8]) -> Result<usize, Failed>
+        // The bytes that were taken were handed to the writer, once; at a failure a front of the piece was.
+        ensures handed { IfOk result (λ n. Appends (W.contents (sink_writer self.old)) (W.contents (sink_writer self.new)) (take n piece.now)) }
+        ensures part { OnErr result (AppendsFront (W.contents (sink_writer self.old)) (W.contents (sink_writer self.new)) piece.now) }
+
+        // The count rises by one at a failure, up to its last value, and never else.
+        ensures counted { OnErr result (sink_faults self.new ≡ next_count (sink_faults self.old)) }
+        ensures uncounted { OnOk result (sink_faults self.new ≡ sink_faults self.old) }
+
+        ensures count { IfOk result (λ n. n ≤ length piece.now) }
+        ensures some { IfOk result (λ n. 0 < length piece.now → 0 < n) }
+        ensures failed { OnErr result (Rose (sink_faults self.old) (sink_faults self.new)) }
+        ensures faults { sink_faults self.old ≤ sink_faults self.new }
+    {
         if piece.is_empty() {
             return Ok(0);
         }
@@ -107,7 +143,9 @@ impl<W: Write> Sink for StdSink<W> {
 
 /// How many bytes one write took, or none where it failed or was interrupted too often.
 fn written<W: Write>(writer: &mut W, piece: &[u8]) -> Option<usize>
-    ensures { IfSome result (λ n. n ≤ length piece.now) }
+    ensures count { IfSome result (λ n. n ≤ length piece.now) }
+    ensures handed { IfSome result (λ n. Appends (W.contents writer.old) (W.contents writer.new) (take n piece.now)) }
+    ensures kept { IfNone result (Keeps (W.contents writer.old) (W.contents writer.new)) }
 {
     for _ in 0..=RETRIES {
         match writer.write(piece) {
@@ -120,7 +158,9 @@ fn written<W: Write>(writer: &mut W, piece: &[u8]) -> Option<usize>
 }
 
 /// Whether a flush succeeded.
-fn is_flushed<W: Write>(writer: &mut W) -> bool {
+fn is_flushed<W: Write>(writer: &mut W) -> bool
+    ensures { Keeps (W.contents writer.old) (W.contents writer.new) }
+{
     for _ in 0..=RETRIES {
         match writer.flush() {
             Ok(()) => return true,

@@ -1,5 +1,5 @@
-use Rattle.std.proofs.Common.{◌≡◌, ◌-◌, ap, ◌∙◌, arith}
-use Rattle.gcm_core.specs.Aes.{add_round_key, cipher, mix_columns, round_count, shift_rows, state_after, sub_bytes}
+use Rattle.std.proofs.Common.{◌≡◌, ℕ, List, ◌-◌, ap, ◌∙◌, arith}
+use Rattle.gcm_core.specs.Aes.{add_round_key, cipher, round_count, shift_rows, state_after, sub_bytes}
 use Rattle.gcm_core.proofs.Schedule.{state_after-next}
 use Rattle.gcm_core.proofs.aes.cipher.Goals as goal
 
@@ -11,7 +11,7 @@ pub loop-round-preserved : goal.loop-round-preserved
 loop-round-preserved c =
     state_after-next c.args.round_keys.now c.args.block c.loop-round.state _ c.loop-round.round (omega arith) c.loop-round.invariant
     (c.add_round_key-state-in-loop-round.ensures
-    ∙ ap (add_round_key c.args.round_keys.now c.loop-round.round) (c.mix_columns.ensures ∙ ap mix_columns (c.shift_rows.ensures ∙ ap shift_rows c.sub_bytes.ensures)))
+    ∙ ap (add_round_key c.args.round_keys.now c.loop-round.round) c.mixed.ensures)
 
 pub returns : goal.returns
 unfolding cipher
@@ -19,5 +19,4 @@ returns c =
     let w = c.args.round_keys.now in
     let last : c.loop-round.round - 1 ≡ round_count w - 1 = omega arith in
     c.add_round_key.ensures
-    ∙ ap (add_round_key w (round_count w)) (c.shift_rows-2.ensures ∙ ap shift_rows (c.sub_bytes-2.ensures
-    ∙ ap sub_bytes (c.loop-round.invariant ∙ ap (state_after w c.args.block) last)))
+    ∙ ap (add_round_key w (round_count w)) (c.shifted.ensures ∙ ap (λ (t : List ℕ). shift_rows (sub_bytes t)) (c.loop-round.invariant ∙ ap (state_after w c.args.block) last))

@@ -2,24 +2,16 @@ use Rattle.std.proofs.Common.{◌≡◌, ℕ, ◌-◌, ◌/◌, ◌^◌, arith, 
 use Rattle.gcm_core.specs.FieldMul.{product_of}
 use Rattle.gcm_core.specs.Ghash.{block_product, reduction_block}
 use Rattle.gcm_core.proofs.Fields.{product_of-none}
-use Rattle.gcm_core.proofs.Hash.{product_of-step_none, product_of-step_one}
+use Rattle.gcm_core.proofs.Hash.{product_of-chosen}
 use Rattle.gcm_core.proofs.ghash.block_product.Goals as goal
-use Rattle.gcm_core.proofs.ghash.block_product.Goals.{then-a-i-eq1, else-a-i-eq1}
 
 pub loop-i-init : goal.loop-i-init
 loop-i-init c = sym (product_of-none 128 reduction_block (c.args.a / 2 ^ 128) c.args.b)
 
 pub loop-i-preserved : goal.loop-i-preserved
 loop-i-preserved c =
-    let i = c.loop-i.i in
-    elim c.if-a-i-eq1.branch [
-      | then-a-i-eq1 w ↦
-          w.product-is ∙ product_of-step_one i c.args.a c.args.b c.loop-i.product c.times_x-product.result (omega arith) c.loop-i.invariant c.times_x-product.ensures
-          w.if-a-i-eq1.true
-      | else-a-i-eq1 w ↦
-          w.product-is ∙ product_of-step_none i c.args.a c.args.b c.loop-i.product c.times_x-product.result (omega arith) c.loop-i.invariant c.times_x-product.ensures
-          w.if-a-i-eq1.false
-    ]
+    product_of-chosen c.«from_u128_lsb-odd».result c.loop-i.i c.args.a c.args.b c.loop-i.product c.«times_x-sum».result c.«select_u128-product».result (omega arith) c.loop-i.invariant
+    c.«times_x-sum».ensures c.«from_u128_lsb-odd».ensures c.«select_u128-product».ensures
 
 pub returns : goal.returns
 unfolding block_product

@@ -25,16 +25,16 @@ use mir.Syntax
 
 pub bound : Statement.statement
 bound =
-    λ γ wired F F-laws F-copy F-Field F-Field-dict F-Clone F-Clone-dict F-Default F-Default-dict F-Debug F-Debug-dict F-PartialEq F-PartialEq-dict M 𝓤 𝓛 𝓜 𝓡 field clone default debug equal. record {
-      butterfly = λ L L-laws L-Ledger L-Ledger-dict ledger.
+    λ γ wired F L F-laws L-laws F-copy F-Field F-Field-dict F-Clone F-Clone-dict F-Default F-Default-dict F-Debug F-Debug-dict F-PartialEq F-PartialEq-dict L-Ledger L-Ledger-dict M 𝓤 𝓛 𝓜 𝓡 field clone default debug equal ledger. record {
+      butterfly =
           let row = Polynomial.the_row (Param.copied 0 F) F-Field F-Default F-Debug F-PartialEq in
-          let dict = TheImpl.dict F F-Field F-Field-dict F-Clone F-Clone-dict F-Default F-Default-dict F-Debug F-Debug-dict F-PartialEq F-PartialEq-dict in
+          let dict = TheImpl.dict F L F-Field F-Field-dict F-Clone F-Clone-dict F-Default F-Default-dict F-Debug F-Debug-dict F-PartialEq F-PartialEq-dict L-Ledger L-Ledger-dict in
           let method = Syntax.method dict 0
-          (Param.bounded (List.◌∷◌ Syntax.a_type List.[]) (L, tt) (Syntax.dcons L-Ledger-dict Syntax.dnil)) in
+          (Param.bounded List.[] tt Syntax.dnil) in
           let signature = given.signature F L F-Field F-Field-dict F-Clone F-Clone-dict F-Default F-Default-dict F-Debug F-Debug-dict F-PartialEq F-PartialEq-dict L-Ledger L-Ledger-dict in
           let ended = given.ended F L F-Field F-Field-dict F-Clone F-Clone-dict F-Default F-Default-dict F-Debug F-Debug-dict F-PartialEq F-PartialEq-dict L-Ledger L-Ledger-dict in
           let spec = given.spec F L F-Field F-Field-dict F-Clone F-Clone-dict F-Default F-Default-dict F-Debug F-Debug-dict F-PartialEq F-PartialEq-dict L-Ledger L-Ledger-dict 𝓛 𝓜.mem 𝓡.returns in
-          let ghosts = TheImpl.ghosts F F-Field F-Field-dict F-Clone F-Clone-dict F-Default F-Default-dict F-Debug F-Debug-dict F-PartialEq F-PartialEq-dict in
+          let ghosts = TheImpl.ghosts F L F-Field F-Field-dict F-Clone F-Clone-dict F-Default F-Default-dict F-Debug F-Debug-dict F-PartialEq F-PartialEq-dict L-Ledger L-Ledger-dict in
           let asked-ended = asked.ended row F L ghosts dict F-Field F-Field-dict F-Clone F-Clone-dict F-Default F-Default-dict F-Debug F-Debug-dict F-PartialEq F-PartialEq-dict L-Ledger L-Ledger-dict in
           let asked-spec = asked.spec row F L ghosts dict F-Field F-Field-dict F-Clone F-Clone-dict F-Default F-Default-dict F-Debug F-Debug-dict F-PartialEq F-PartialEq-dict L-Ledger L-Ledger-dict 𝓛 𝓜.mem 𝓡.returns in
           Impl.implements 𝓛 signature 5 asked-ended.signature.outlives (λ τs. (τs.0, (τs.1.0, (τs.1.1.0, (τs.1.1.1.1.0, tt)))))

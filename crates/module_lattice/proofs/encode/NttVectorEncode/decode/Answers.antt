@@ -1,7 +1,8 @@
 use Rattle.std.proofs.Common.{length, rules, ◌≡◌, ℕ, List, ◌+◌, ◌-◌, ◌*◌, ◌^◌, ◌<◌, All, ◌++◌, ◌∷◌, [], take, drop, ap, ◌∙◌, arith}
 use Rattle.std.proofs.lemmas.List.Elements.{All-same}
 use Rattle.module_lattice.specs.Groups.{decoded}
-use Rattle.module_lattice.proofs.Encoding.{All-decoded_each, decoded_more, decoded_done, length-decoded_each}
+use Rattle.module_lattice.specs.Ring.{IsPolynomial}
+use Rattle.module_lattice.proofs.Encoding.{All-decoded_each, All-polynomials, decoded_more, decoded_done, length-decoded_each}
 use Rattle.module_lattice.proofs.encode.NttVectorEncode.decode.Goals as goal
 
 pub loop-i-preserved : goal.loop-i-preserved
@@ -25,3 +26,8 @@ returns-clause-count g c = ap length (returns-clause-value g c) ∙ length-decod
 pub returns-clause-in_width : goal.returns-clause-in_width
 returns-clause-in_width g c =
     All-same (λ f. All (λ x. x < 2 ^ c.args.d) f) _ _ (returns-clause-value g c) (All-decoded_each g.F.Field.Q c.args.d c.args.count c.args.bytes.now)
+
+pub returns-clause-polynomials : goal.returns-clause-polynomials
+returns-clause-polynomials g c =
+    All-same (IsPolynomial g.F.Field.Q) _ _ (returns-clause-value g c)
+    (All-polynomials g.F.Field.Q c.args.d c.args.count c.args.bytes.now c.requires.positive c.requires.width c.requires.bytes)

@@ -1,0 +1,5 @@
+mod Ranges
+mod Rounded
+mod Taken
+mod Totals
+mod Transforms

@@ -1,0 +1,10 @@
+use Rattle.std.proofs.Common.{◌≡◌, ℕ, ◌<◌, ◌≤◌, get_or}
+use Rattle.ml_kem.specs.Rounding.{compress}
+use Rattle.ml_kem.proofs.rounding.compress_each.Given as goal
+
+-- what is done, and what is still as it was
+abbrev pub invariant-loop-value : goal.invariant-loop-value
+invariant-loop-value l = record {
+  done : (k : ℕ) → k < l.value-index → get_or l.values k 0 ≡ compress l.d (get_or l.fn.values k 0);
+  rest : (k : ℕ) → l.value-index ≤ k → get_or l.values k 0 ≡ get_or l.fn.values k 0;
+}

@@ -1,0 +1,18 @@
+-- the table of parameter sets
+pub mod Parameters
+-- the number-theoretic transform and its inverse
+pub mod Transform
+-- compression and decompression
+pub mod Rounding
+-- sampling of polynomials
+pub mod Samples
+-- the matrix of a public seed, and noise
+pub mod Matrix
+-- key generation, and the parts of keys
+pub mod Keys
+-- encryption and decryption
+pub mod Encryption
+-- encapsulation and decapsulation
+pub mod Encapsulation
+-- a family of hash functions for tests, with its laws: no public clause cites it
+pub mod Families

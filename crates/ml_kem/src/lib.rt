@@ -1,0 +1,18 @@
+//! ML-KEM: a key encapsulation mechanism that stands on module lattices (FIPS 203), over any lawful
+//! family of hash functions.
+#![tactic(auto)]
+
+pub mod laws;
+mod parameters;
+mod ring;
+mod rounding;
+mod sampling;
+mod transform;
+
+pub use parameters::{B32, MlKem512, MlKem768, MlKem1024, ParameterSet, Seed, SharedKey};
+pub use rounding::{compress, decompress};
+pub use sampling::{sample_ntt, sample_poly_cbd};
+pub use transform::{ntt, ntt_inverse};
+
+#[cfg(test)]
+mod tests;

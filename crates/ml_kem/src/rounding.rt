@@ -1,0 +1,76 @@
+//! Compression and decompression (FIPS 203, section 4.2.1).
+
+ghost use Rattle.std.specs.Prelude.{◌≡◌, ◌^◌, ◌<◌, ◌≤◌, All, map};
+ghost use Rattle.ml_kem.specs.Rounding.{compress, decompress};
+
+use crate::parameters::Q;
+use module_lattice::{BaseField, Polynomial};
+
+/// Compress: the `d` bits of a number below 3329, rounded to the nearest. The width `d` is 1 to 11.
+pub fn compress(d: usize, x: u32) -> u32
+    requires positive { 1 ≤ d }
+    requires narrow { d ≤ 11 }
+    requires in_field { x < 3329 }
+    ensures value { result ≡ compress d x }
+    ensures in_width { result < 2 ^ d }
+{
+    ((x << (d + 1)) + Q) / (2 * Q) % (1 << d)
+}
+
+/// Decompress: the number below 3329 that `d` bits stand for, rounded to the nearest. The width `d`
+/// is 1 to 11, and `y` is below 2^d.
+pub fn decompress(d: usize, y: u32) -> u32
+    requires positive { 1 ≤ d }
+    requires narrow { d ≤ 11 }
+    requires in_width { y < 2 ^ d }
+    ensures value { result ≡ decompress d y }
+    ensures in_field { result < 3329 }
+{
+    (2 * Q * y + (1 << d)) >> (d + 1)
+}
+
+/// Each coefficient compressed.
+pub(crate) fn compress_polynomial(d: usize, f: &Polynomial<BaseField>) -> Polynomial<BaseField>
+    requires positive { 1 ≤ d }
+    requires narrow { d ≤ 11 }
+    ensures value { result ≡ map (compress d) f.now }
+    ensures in_width { All (λ x. x < 2 ^ d) result }
+{
+    let mut values = f.into_array();
+    compress_each(d, &mut values);
+    Polynomial::new(values)
+}
+
+/// Each coefficient, which is below 2^d, decompressed.
+pub(crate) fn decompress_polynomial(d: usize, f: &Polynomial<BaseField>) -> Polynomial<BaseField>
+    requires positive { 1 ≤ d }
+    requires narrow { d ≤ 11 }
+    requires in_width { All (λ x. x < 2 ^ d) f.now }
+    ensures { result ≡ map (decompress d) f.now }
+{
+    let mut values = f.into_array();
+    decompress_each(d, &mut values);
+    Polynomial::new(values)
+}
+
+fn compress_each(d: usize, values: &mut [u32])
+    requires positive { 1 ≤ d }
+    requires narrow { d ≤ 11 }
+    requires in_field { All (λ x. x < 3329) values.old }
+    ensures { values.new ≡ map (compress d) values.old }
+{
+    for value in values.iter_mut() {
+        *value = compress(d, *value);
+    }
+}
+
+fn decompress_each(d: usize, values: &mut [u32])
+    requires positive { 1 ≤ d }
+    requires narrow { d ≤ 11 }
+    requires in_width { All (λ x. x < 2 ^ d) values.old }
+    ensures { values.new ≡ map (decompress d) values.old }
+{
+    for value in values.iter_mut() {
+        *value = decompress(d, *value);
+    }
+}
