@@ -1,2 +1,4 @@
+mod BothSides
 mod Schedules
+mod SingleShots
 mod Xor

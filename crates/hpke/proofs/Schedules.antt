@@ -3,7 +3,7 @@ use Rattle.std.proofs.Common.{◌≡◌, ℕ, List, [], ◌∷◌, ◌++◌, Som
 use Rattle.std.specs.Prelude.{codes}
 use Rattle.hkdf_core.specs.Hmac.{key_block}
 use Rattle.hpke.specs.Labels.{labeled_extract, labeled_expand}
-use Rattle.hpke.specs.Schedule.{Suite, Context, suite_id, schedule, schedule_context}
+use Rattle.hpke.specs.Schedule.{Suite, Context, suite_id, schedule, schedule_context, export_of}
 
 -- what an expansion, seen by its key's block, gives under a label
 abbrev pub Expands : Suite → List ℕ → List ℕ → List ℕ → List ℕ → ℕ → List ℕ → Type 0
@@ -36,3 +36,10 @@ schedule-is s mode shared info psk psk_id id context secret key nonce exporter k
     let nonce_is = n _ is in
     let exporter_is = e _ is in
     cc
+
+-- an exported secret, over the exporter secret's bytes
+pub export-is : (s : Suite) (context : Context) (exporter_context id secret out : List ℕ) (len : ℕ)
+    → id ≡ suite_id s → secret ≡ context.exporter_secret
+    → out ≡ labeled_expand s.kdf.hash s.kdf.block_size secret id (codes "sec") exporter_context len
+    → out ≡ export_of s context exporter_context len
+export-is s context exporter_context id secret out len suite same expanded = rw (suite, same) at expanded

@@ -11,6 +11,12 @@ Answers view error (Ok x) meaning = meaning ≡ Some (view x)
 Answers view error (Err e) None = IsMemoryOr error e
 Answers view error (Err e) (Some y) = e ≡ NoMemory
 
+-- The same of a call that takes no memory: nothing is free.
+abbrev pub AnswersExactly : {X Y : Type 0} → (X → Y) → HpkeError → Result X HpkeError → Option Y → Type 0
+AnswersExactly view error (Ok x) meaning = meaning ≡ Some (view x)
+AnswersExactly view error (Err e) None = e ≡ error
+AnswersExactly view error (Err e) (Some y) = ⊥
+
 -- a pair of keys where both are there
 abbrev pub both : Option (List ℕ) → Option (List ℕ) → Option (List ℕ × List ℕ)
 both (Some sk) (Some pk) = Some (sk, pk)

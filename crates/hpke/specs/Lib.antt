@@ -8,10 +8,16 @@ pub mod Answers
 pub mod Labels
 -- the key schedule, and contexts (RFC 9180, section 5.1)
 pub mod Schedule
+-- what a recipient's mode brings (RFC 9180, section 5)
+pub mod RecipientMode
+-- what a sender's mode brings (RFC 9180, section 5)
+pub mod SenderMode
 -- the nonces of messages (RFC 9180, section 5.2)
 pub mod Nonce
 -- how a context answers a call that uses its next number
 pub mod Messages
+-- a setup and one message (RFC 9180, section 6.1)
+pub mod SingleShot
 -- the test KEM
 pub mod Mask
 -- the laws of the test KEM: proofs, and no definitions

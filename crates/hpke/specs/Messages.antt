@@ -3,7 +3,7 @@ use Rattle.std.specs.Prelude.{ℕ, Option, Some, None, Result}
 use Rattle.std.specs.Option.{option_and_then}
 use Rattle.hpke.specs.declared.error.HpkeError.{HpkeError}
 use Rattle.hpke.specs.declared.error.HpkeError.TheVariants.{MessageLimitReached}
-use Rattle.hpke.specs.Answers.{Answers}
+use Rattle.hpke.specs.Answers.{Answers, AnswersExactly}
 use Rattle.hpke.specs.Nonce.{number_after}
 use Rattle.hpke.specs.Schedule.{Context}
 
@@ -12,6 +12,11 @@ use Rattle.hpke.specs.Schedule.{Context}
 abbrev pub NumberedAnswers : {X Y : Type 0} → (X → Y) → HpkeError → Result X HpkeError → Option ℕ → (ℕ → Option Y) → Type 0
 NumberedAnswers view error result None meaning = Answers view MessageLimitReached result None
 NumberedAnswers view error result (Some number) meaning = Answers view error result (meaning number)
+
+-- The same of a call that takes no memory: nothing is free.
+abbrev pub NumberedExactly : {X Y : Type 0} → (X → Y) → HpkeError → Result X HpkeError → Option ℕ → (ℕ → Option Y) → Type 0
+NumberedExactly view error result None meaning = AnswersExactly view MessageLimitReached result None
+NumberedExactly view error result (Some number) meaning = AnswersExactly view error result (meaning number)
 
 -- the context once its next number was used
 abbrev pub used : Context → Context

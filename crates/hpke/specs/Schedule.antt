@@ -74,6 +74,10 @@ schedule s mode shared info psk psk_id =
       next = Some 0;
     }
 
+-- Context.Export(exporter_context, L) (section 5.3), for an L of at most 255 digests
+abbrev pub export_of : Suite → Context → List ℕ → ℕ → List ℕ
+export_of s context exporter_context len = suite_expand s context.exporter_secret (codes "sec") exporter_context len
+
 -- what a sender's setup gives, of the secret and the encapsulated key that its encapsulation made:
 -- the encapsulated key and the context (section 5.1)
 abbrev pub sender_setup : Suite → Mode → List ℕ → Option (List ℕ × List ℕ) → Option (List ℕ × Context)

@@ -3,7 +3,7 @@
 ghost use Rattle.std.specs.Prelude.{◌≡◌, ◌≤◌, ◌+◌, ◌↔◌, ◌++◌, ℕ, List, length, Option, None, Some, IsErr, OnOk, OnErr};
 ghost use Rattle.hpke.specs.Schedule.{AeadAlgorithm};
 
-use gcm_core::{AesGcm256Impl, NotAuthentic, TooLong};
+use gcm_core::{NotAuthentic, TooLong};
 
 /// The most bytes that a tag has.
 pub const MAX_TAG_SIZE: usize = 32;
@@ -108,106 +108,4 @@ pub trait Aead {
       nonce_size = Self.AeadImpl.NONCE_SIZE;
       aead_id = AEAD_ID;
     } };
-}
-
-/// AES-256-GCM.
-pub struct AesGcm256;
-
-impl Aead for AesGcm256 {
-    type AeadImpl = AesGcm256Impl;
-
-    const AEAD_ID: u16 = 2;
-
-    ghost AEAD_ID = { 2 };
-
-    ghost use Rattle.std.proofs.Common.{refl};
-
-    ghost aead = { record { key_size = 32; nonce_size = 12; aead_id = 2 } };
-
-    ghost aead_is = { refl };
-}
-
-/// How many bytes a key of AES-256-GCM has.
-const AES_256_KEY_SIZE: usize = 32;
-
-/// How many bytes a nonce of AES-256-GCM has.
-const GCM_NONCE_SIZE: usize = 12;
-
-/// How many bytes a tag of AES-256-GCM has.
-const GCM_TAG_SIZE: usize = 16;
-
-impl BaseAead for AesGcm256Impl {
-    ghost use Rattle.gcm_core.specs.Gcm.{seal_of, open_of};
-
-    const KEY_SIZE: usize = AES_256_KEY_SIZE;
-
-    const NONCE_SIZE: usize = GCM_NONCE_SIZE;
-
-    const TAG_SIZE: usize = GCM_TAG_SIZE;
-
-    ghost KEY_SIZE = { 32 };
-
-    ghost NONCE_SIZE = { 12 };
-
-    ghost TAG_SIZE = { 16 };
-
-    ghost key_of = { λ aead. aead };
-
-    ghost seal_of = { seal_of };
-
-    ghost open_of = { open_of };
-
-    fn new(key: &[u8]) -> AesGcm256Impl {
-        let mut bytes = [0; AES_256_KEY_SIZE];
-        bytes.copy_from_slice(key);
-        AesGcm256Impl::new(&bytes)
-    }
-
-    fn seal_in_place(
-        &self,
-        nonce: &[u8],
-        aad: &[u8],
-        buffer: &mut [u8],
-        tag: &mut [u8],
-    ) -> Result<(), TooLong> {
-        let mut code = [0; GCM_TAG_SIZE];
-        AesGcm256Impl::seal_in_place(self, &gcm_nonce(nonce), aad, buffer, &mut code)?;
-        tag.copy_from_slice(&code);
-        Ok(())
-    }
-
-    fn open_in_place(
-        &self,
-        nonce: &[u8],
-        aad: &[u8],
-        buffer: &mut [u8],
-        tag: &[u8],
-    ) -> Result<(), NotAuthentic> {
-        let mut code = [0; GCM_TAG_SIZE];
-        code.copy_from_slice(tag);
-        AesGcm256Impl::open_in_place(self, &gcm_nonce(nonce), aad, buffer, &code)
-    }
-
-    ghost use Rattle.std.proofs.Common.{rules};
-    ghost use Rattle.gcm_core.proofs.SealingLaws.{open_of-seal_of, length-seal_of};
-
-    ghost key_size_in_range = { Prim.search rules };
-
-    ghost nonce_size_in_range = { Prim.search rules };
-
-    ghost tag_size_in_range = { Prim.search rules };
-
-    ghost opens_what_was_sealed = { open_of-seal_of };
-
-    ghost sealed_size = { length-seal_of };
-}
-
-// A nonce of AES-256-GCM from its bytes.
-fn gcm_nonce(nonce: &[u8]) -> [u8; GCM_NONCE_SIZE]
-    requires { length nonce.now ≡ 12 }
-    ensures { result ≡ nonce.now }
-{
-    let mut bytes = [0; GCM_NONCE_SIZE];
-    bytes.copy_from_slice(nonce);
-    bytes
 }

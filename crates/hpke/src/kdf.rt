@@ -7,7 +7,8 @@ ghost use Rattle.hpke.specs.Schedule.{KdfAlgorithm};
 
 use crate::short::{MAX_SHORT, ShortBytes};
 use hkdf_core::{
-    DigestBytes, HashSha256, Hkdf, HkdfExtract, HkdfHash, InvalidLength, MAX_OUTPUT_BLOCKS,
+    DigestBytes, HashSha256, HashSha384, HashSha512, Hkdf, HkdfExtract, HkdfHash, InvalidLength,
+    MAX_OUTPUT_BLOCKS,
 };
 
 /// What stands before each label (RFC 9180, section 4).
@@ -49,6 +50,42 @@ impl Kdf for HkdfSha256 {
     ghost use Rattle.sha2.specs.Sha256.{sha256};
 
     ghost kdf = { record { hash = sha256; block_size = 64; digest_size = 32; kdf_id = 1 } };
+
+    ghost kdf_is = { refl };
+}
+
+/// HKDF-SHA384.
+pub struct HkdfSha384;
+
+impl Kdf for HkdfSha384 {
+    type HashImpl = HashSha384;
+
+    const KDF_ID: u16 = 2;
+
+    ghost KDF_ID = { 2 };
+
+    ghost use Rattle.std.proofs.Common.{refl};
+    ghost use Rattle.sha2.specs.Sha512.{sha384};
+
+    ghost kdf = { record { hash = sha384; block_size = 128; digest_size = 48; kdf_id = 2 } };
+
+    ghost kdf_is = { refl };
+}
+
+/// HKDF-SHA512.
+pub struct HkdfSha512;
+
+impl Kdf for HkdfSha512 {
+    type HashImpl = HashSha512;
+
+    const KDF_ID: u16 = 3;
+
+    ghost KDF_ID = { 3 };
+
+    ghost use Rattle.std.proofs.Common.{refl};
+    ghost use Rattle.sha2.specs.Sha512.{sha512};
+
+    ghost kdf = { record { hash = sha512; block_size = 128; digest_size = 64; kdf_id = 3 } };
 
     ghost kdf_is = { refl };
 }

@@ -16,10 +16,10 @@ use std::alloc::{AllocError, Global};
 /// A key encapsulation mechanism. Contracts see a key by its bytes.
 pub trait Kem: SecretSize + Sized {
     /// What a sender encapsulates to.
-    type PublicKey: Deserializable + Drop + 'static;
+    type PublicKey: Deserializable + Drop;
 
     /// What a recipient decapsulates with.
-    type PrivateKey: Deserializable + Drop + 'static;
+    type PrivateKey: Deserializable + Drop;
 
     /// What a sender sends to the recipient.
     type EncappedKey: Deserializable + Drop;

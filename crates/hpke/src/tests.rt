@@ -1,12 +1,17 @@
 //! Printed texts, and each public call once. Expected bytes are of an independent model, in hex.
 
-ghost use Rattle.std.specs.Prelude.{replicate};
+ghost use Rattle.std.specs.Prelude.{◌<◌, ◌^◌, replicate};
 ghost use Rattle.rand_core.specs.Steps.{stream_of};
 
-use crate::laws::same_context;
+mod contexts;
+mod single_shots;
+
+use crate::laws::{registered_identifiers, same_context};
+use crate::short::{ShortBytes, nonce};
 use crate::{
-    Deserializable, HkdfSha256, HpkeError, Kem, LabeledExpand, MaskKem, MaskKey, SecretSize,
-    Serializable, extract_and_expand, labeled_extract,
+    AeadTag, AesGcm256, Deserializable, ExportOnlyAead, HkdfSha256, HkdfSha384, HkdfSha512,
+    HpkeError, Kdf, Kem, LabeledExpand, MaskKem, MaskKey, SecretSize, Serializable,
+    extract_and_expand, labeled_extract,
 };
 use rand_core::Rng;
 use std::alloc::Global;
@@ -147,16 +152,76 @@ fn extract_and_expand_of_a_kem(rt: HostRuntime) -> Result<(), Fail> {
     Ok(())
 }
 
-// 255 digests, and one byte more.
+// Nonces of an independent model, each by its base nonce and number.
 #[test]
-fn the_longest_labeled_output(rt: HostRuntime) -> Result<(), Fail> {
-    let (_prk, hkdf) = labeled_extract::<HkdfSha256>(&[], b"KEM", b"label", b"ikm");
-    let mut longest = vec![in rt.alloc(); 7; 8160]?;
-    hkdf.labeled_expand(b"KEM", b"label", &[], longest.as_mut_slice())?;
-    let mut refused = vec![in rt.alloc(); 7; 8161]?;
-    assert!(rt;
-        hkdf.labeled_expand(b"KEM", b"label", &[], refused.as_mut_slice())
-            .is_err()
-    );
+fn nonces_of_numbers(rt: HostRuntime) -> Result<(), Fail> {
+    let alloc = rt.alloc();
+    let cases = [
+        ("46d41b6334664be3b4bbe4ec", 0, "46d41b6334664be3b4bbe4ec"),
+        ("044d130a95e442722f944b6c", 1, "044d130a95e442722f944b6d"),
+        ("bdfc826ef443355b89aa6d39", 255, "bdfc826ef443355b89aa6dc6"),
+        ("1703a565fc984092fff053cc", 256, "1703a565fc984092fff052cc"),
+        (
+            "72223e423216719e5e1deeb1",
+            4294967296,
+            "72223e423216719f5e1deeb1",
+        ),
+        (
+            "ecb7e8440d0867182b31c54d",
+            9223372036854775808,
+            "ecb7e8448d0867182b31c54d",
+        ),
+        (
+            "fd36a2ed8e4dae37133df157",
+            18446744073709551615,
+            "fd36a2ed71b251c8ecc20ea8",
+        ),
+    ];
+    for (base_nonce, number, want) in cases {
+        let base_nonce = hex::decode(alloc, base_nonce)?;
+        let mut bytes = [0; 12];
+        if base_nonce.len() == bytes.len() {
+            bytes.copy_from_slice(base_nonce.as_slice());
+        }
+        let made = nonce(&ShortBytes::from_slice(&bytes), number);
+        assert_eq!(rt; hex::encode(alloc, made.as_slice())?.as_str(), want);
+    }
+    Ok(())
+}
+
+#[test]
+fn tags_in_bytes(rt: HostRuntime) -> Result<(), Fail> {
+    let alloc = rt.alloc();
+    let encoded = [9; 17];
+    let tag = AeadTag::<AesGcm256>::from_bytes(alloc, &encoded[..16])?;
+    assert_eq!(rt; tag.clone()?.to_bytes(alloc)?.as_slice(), &encoded[..16]);
+    for len in [0, 15, 17] {
+        let refused = AeadTag::<AesGcm256>::from_bytes(alloc, &encoded[..len]).err();
+        assert_eq!(rt; refused, Some(HpkeError::IncorrectInputLength(16, len)));
+    }
+    let zeros = AeadTag::<AesGcm256>::default();
+    assert_eq!(rt; zeros.to_bytes(alloc)?.as_slice(), [0; 16].as_slice());
+    assert_eq!(rt; AeadTag::<ExportOnlyAead>::size(), 0);
+    registered_identifiers();
+    Ok(())
+}
+
+// Expands to this length, which is 255 digests, and whether one byte more is refused.
+fn longest_output<D: Kdf>(alloc: Global, longest: usize) -> Result<bool, Fail>
+    requires { longest < 2 ^ 16 }
+{
+    let (_prk, hkdf) = labeled_extract::<D>(&[], b"KEM", b"label", b"ikm");
+    let mut output = vec![in alloc; 7; longest + 1]?;
+    let refused = hkdf.labeled_expand(b"KEM", b"label", &[], output.as_mut_slice());
+    hkdf.labeled_expand(b"KEM", b"label", &[], &mut output[..longest])?;
+    Ok(refused.is_err())
+}
+
+#[test]
+fn the_longest_labeled_outputs(rt: HostRuntime) -> Result<(), Fail> {
+    let alloc = rt.alloc();
+    assert!(rt; longest_output::<HkdfSha256>(alloc, 8160)?);
+    assert!(rt; longest_output::<HkdfSha384>(alloc, 12240)?);
+    assert!(rt; longest_output::<HkdfSha512>(alloc, 16320)?);
     Ok(())
 }

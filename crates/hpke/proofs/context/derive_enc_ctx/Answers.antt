@@ -3,8 +3,8 @@ use Rattle.hpke.specs.Schedule.{KdfAlgorithm, AeadAlgorithm, Suite, suite_of, su
 use Rattle.hpke.proofs.Schedules.{schedule-is, schedule_context-is}
 use Rattle.hpke.proofs.context.derive_enc_ctx.Goals as goal
 
-pub returns : goal.returns
-returns g c =
+pub returns-clause-value : goal.returns-clause-value
+returns-clause-value g c =
     let kdf : KdfAlgorithm = record {
       hash = g.D.HashImpl.HkdfHash.hash_of;
       block_size = g.D.HashImpl.HkdfHash.BLOCK_SIZE;
@@ -17,15 +17,15 @@ returns g c =
       aead_id = g.A.Aead.AEAD_ID;
     } in
     let suite : Suite = suite_of g.K.Kem.KEM_ID kdf aead in
-    let ids : c.hpke_suite_id-suite_id.result ≡ suite_id suite =
-    cc (c.hpke_suite_id-suite_id.ensures, c.KEM_ID.ensures, c.KDF_ID.ensures, c.AEAD_ID.ensures) in
+    let ids : c.context_suite_id-suite_id.result ≡ suite_id suite =
+    rw (g.met.D.Kdf.kdf_is, g.met.A.Aead.aead_is) at c.context_suite_id-suite_id.ensures in
     let whole : c.schedule_context-context.result ≡ schedule_context suite c.args.mode c.args.info.now c.args.psk_id.now =
-    schedule_context-is suite c.args.mode c.args.info.now c.args.psk_id.now c.hpke_suite_id-suite_id.result
+    schedule_context-is suite c.args.mode c.args.info.now c.args.psk_id.now c.context_suite_id-suite_id.result
     c.labeled_extract-psk_id_hash.result.0 c.labeled_extract-info_hash.result.0 c.schedule_context-context.result
     ids c.labeled_extract-psk_id_hash.ensures.prk c.labeled_extract-info_hash.ensures.prk c.schedule_context-context.ensures in
     let key : g.A.AeadImpl.BaseAead.key_of c.new.result ≡ c.expand_short-key.result = c.new.ensures ∙ c.as_slice.ensures in
     rw (g.met.D.Kdf.kdf_is, g.met.A.Aead.aead_is, key) (schedule-is suite c.args.mode c.args.shared_secret.now c.args.info.now c.args.psk.now c.args.psk_id.now
-    c.hpke_suite_id-suite_id.result c.as_slice-info.result.now c.labeled_extract-secret.result.1
+    c.context_suite_id-suite_id.result c.as_slice-info.result.now c.labeled_extract-secret.result.1
     c.expand_short-key.result c.expand_short.result c.expand_short-2.result
     c.KEY_SIZE.result c.NONCE_SIZE.result c.DIGEST_SIZE.result
     c.KEY_SIZE.ensures c.NONCE_SIZE.ensures c.DIGEST_SIZE.ensures
