@@ -1,0 +1,2 @@
+-- the transform and its inverse, as sums
+pub mod Transform
