@@ -20,3 +20,11 @@ pub mod Weights
 pub mod Products
 -- the transform of a product
 pub mod ProductLaw
+-- butterflies at places that differ
+pub mod Butterflies
+-- the places of a layer
+pub mod Groups
+-- a layer on remainders
+pub mod Remainders
+-- seven layers
+pub mod Seven

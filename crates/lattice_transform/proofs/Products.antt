@@ -12,7 +12,7 @@ over-times_last a n c f =
     over-same a n (λ k. f k * c) (λ k. c * f k) (λ k low high. mul_comm (f k) c) ∙ over-times a n c f ∙ mul_comm c (over a n f)
 
 -- -x is (q - 1)·x
-negative : (x : ℕ) → (3329 - x % 3329) % 3329 ≡ 3328 * x % 3329
+pub negative : (x : ℕ) → (3329 - x % 3329) % 3329 ≡ 3328 * x % 3329
 negative x =
     let r : ℕ = x % 3329 in
     let small : r < 3329 = omega arith in

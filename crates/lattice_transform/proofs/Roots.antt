@@ -8,7 +8,7 @@ use Rattle.module_lattice.specs.Pairs.{gamma}
 use Rattle.lattice_transform.proofs.Sums.{over}
 
 -- a rule that is a list, place by place
-from_table : (f g : ℕ → ℕ) (a n k : ℕ) → map f (range_with_len a n) ≡ map g (range_with_len a n) → a ≤ k → k < a + n → f k ≡ g k
+pub from_table : (f g : ℕ → ℕ) (a n k : ℕ) → map f (range_with_len a n) ≡ map g (range_with_len a n) → a ≤ k → k < a + n → f k ≡ g k
 from_table f g a n k same low high =
     sym (get_or-map-range_with_len f a n (k - a) k 0 (omega arith) (omega arith))
     ∙ ap (λ (xs : List ℕ). get_or xs (k - a) 0) same

@@ -8,4 +8,5 @@ fn laws_are_called(_rt: HostRuntime) {
     laws::transform_keeps_sums();
     laws::products_are_pair_products();
     laws::worked_transforms();
+    laws::layers_are_the_transform();
 }
