@@ -3,8 +3,9 @@ use Rattle.std.proofs.Common.{◌≡◌, ℕ, zero, suc, ◌+◌, ◌*◌, ◌/�
 use Rattle.std.proofs.Math.Nat.{div-add-mod, mod-lt}
 use Rattle.std.proofs.lemmas.Bool.{cases_lt}
 use Rattle.std.proofs.lemmas.Nat.{div-mul-add, mod-mul-add}
+use Rattle.module_lattice.specs.Ring.{minus, plus, times}
 use Rattle.lattice_transform.specs.Layers.{butterflies, first_place, layer, zeta}
-use Rattle.lattice_transform.proofs.Butterflies.{AreApart, Stage, next_stage, no_stage}
+use Rattle.lattice_transform.proofs.Butterflies.{AreApart, Stage, Step, next_stage, no_stage}
 
 -- ---- places as blocks of m numbers
 
@@ -69,14 +70,20 @@ are-apart m t positive whole = record {
 
 -- ---- the butterflies of a layer
 
+abbrev pub sum_part : Step
+sum_part z a b = plus 3329 a (times 3329 z b)
+
+abbrev pub difference_part : Step
+difference_part z a b = minus 3329 a (times 3329 z b)
+
 abbrev pub LayerStage : ℕ → List ℕ → ℕ → List ℕ → Type 0
-LayerStage m f n v = Stage (first_place m) (λ k. first_place m k + m) (λ k. zeta (128 / m + k / m)) f n v
+LayerStage m f n v = Stage sum_part difference_part (first_place m) (λ k. first_place m k + m) (λ k. zeta (128 / m + k / m)) f n v
 
 stages : (m t n : ℕ) (f : List ℕ) → 1 ≤ m → m * t ≡ 128 → length f ≡ 256 → n ≤ 128 → LayerStage m f n (butterflies m n f)
 unfolding butterflies
-stages m t zero f positive whole long low = no_stage (first_place m) (λ k. first_place m k + m) (λ k. zeta (128 / m + k / m)) f long
+stages m t zero f positive whole long low = no_stage sum_part difference_part (first_place m) (λ k. first_place m k + m) (λ k. zeta (128 / m + k / m)) f long
 stages m t (suc n) f positive whole long low =
-    next_stage (first_place m) (λ k. first_place m k + m) (λ k. zeta (128 / m + k / m)) f n (butterflies m n f)
+    next_stage sum_part difference_part (first_place m) (λ k. first_place m k + m) (λ k. zeta (128 / m + k / m)) f n (butterflies m n f)
     (are-apart m t positive whole) (omega arith) (stages m t n f positive whole long (omega arith))
 
 pub layer-stage : (m t : ℕ) (f : List ℕ) → 1 ≤ m → m * t ≡ 128 → length f ≡ 256 → LayerStage m f 128 (layer m f)

@@ -28,3 +28,7 @@ pub mod Groups
 pub mod Remainders
 -- seven layers
 pub mod Seven
+-- the table of the zetas
+pub mod ZetaTable
+-- the loop over the butterflies of a layer
+pub mod LayerLoop

@@ -2,5 +2,10 @@
 #![tactic(auto)]
 
 pub mod laws;
+mod layers;
+mod zetas;
+
+pub use layers::ntt_counted;
+
 #[cfg(test)]
 mod tests;
