@@ -1,0 +1,20 @@
+-- The table of the zetas.
+use Rattle.std.proofs.Common.{◌≡◌, ℕ, ◌<◌, List, map, slice_index, refl, sym, ap, ◌∙◌, arith, ◌^◌}
+use Rattle.std.specs.List.{range_with_len}
+use Rattle.std.proofs.Math.Nat.{mod-lt}
+use Rattle.std.proofs.lemmas.List.FromFn.{get_or-map-range_with_len}
+use Rattle.module_lattice.specs.Pairs.{bit_rev7}
+use Rattle.lattice_transform.specs.declared.zetas.TheConstants.{ZETAS}
+use Rattle.lattice_transform.specs.Layers.{zeta}
+
+-- the table is the rule, place by place
+ZETAS_is : map zeta (range_with_len 0 128) ≡ ZETAS
+unfolding zeta
+ZETAS_is = refl
+
+pub zeta-at : (k : ℕ) → k < 128 → slice_index ZETAS k ≡ zeta k
+zeta-at k inside = ap (λ (t : List ℕ). slice_index t k) (sym ZETAS_is) ∙ get_or-map-range_with_len zeta 0 128 k k 0 inside (omega arith)
+
+pub zeta-below : (k : ℕ) → k < 128 → slice_index ZETAS k < 3329
+unfolding zeta
+zeta-below k inside = rw (zeta-at k inside) (mod-lt (17 ^ bit_rev7 k) (omega arith))

@@ -1,0 +1,8 @@
+use Rattle.lattice_transform.proofs.ProductLaw.{inverse-of-products, transform-product}
+use Rattle.lattice_transform.proofs.laws.products_are_pair_products.Goals as goal
+
+pub returns-clause-transform : goal.returns-clause-transform
+returns-clause-transform c = transform-product
+
+pub returns-clause-inverse : goal.returns-clause-inverse
+returns-clause-inverse c = inverse-of-products

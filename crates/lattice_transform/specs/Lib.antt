@@ -1,0 +1,4 @@
+-- the transform and its inverse, as sums
+pub mod Transform
+-- the transform by layers of butterflies
+pub mod Layers

@@ -1,0 +1,11 @@
+//! The number-theoretic transform of ML-KEM, as an isomorphism of rings and by layers of butterflies.
+#![tactic(auto)]
+
+pub mod laws;
+mod layers;
+mod zetas;
+
+pub use layers::ntt_counted;
+
+#[cfg(test)]
+mod tests;
