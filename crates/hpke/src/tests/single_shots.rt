@@ -3,8 +3,8 @@
 use super::{ConstantDraw, key};
 use crate::{
     AeadTag, AesGcm128, AesGcm256, ExportOnlyAead, HkdfSha256, HkdfSha384, HkdfSha512, HpkeError,
-    MaskKem, OpModeR, OpModeS, PskBundle, single_shot_open, single_shot_open_in_place_detached,
-    single_shot_seal, single_shot_seal_in_place_detached,
+    MaskKem, OpModeR, OpModeS, PskBundle, setup_receiver, setup_sender, single_shot_open,
+    single_shot_open_in_place_detached, single_shot_seal, single_shot_seal_in_place_detached,
 };
 use std::alloc::Global;
 use std::test::Fail;
@@ -94,6 +94,62 @@ fn single_shots_in_each_mode(rt: HostRuntime) -> Result<(), Fail> {
             }
             Err(e) => assert_eq!(rt; Some(e), refusal),
         }
+    }
+    Ok(())
+}
+
+// Each other call that sets up a context refuses a sender's identity too.
+#[test]
+fn senders_are_refused(rt: HostRuntime) -> Result<(), Fail> {
+    let alloc = rt.alloc();
+    let recip = key(alloc, &[1; 32])?;
+    let psk = PSK;
+    let psk_id = PSK_ID;
+    let bundle = PskBundle { psk, psk_id };
+    let mut text = *b"text";
+    for mode in [2, 3] {
+        let mode_s = sender(alloc, mode, bundle)?;
+        let refused = setup_sender::<AesGcm128, HkdfSha256, MaskKem, ConstantDraw>(
+            alloc,
+            &mode_s,
+            &recip,
+            b"",
+            &mut ConstantDraw::new(7),
+        );
+        assert_eq!(rt; refused.err(), Some(HpkeError::EncapError));
+        let refused = single_shot_seal_in_place_detached::<
+            AesGcm128,
+            HkdfSha256,
+            MaskKem,
+            ConstantDraw,
+        >(
+            alloc,
+            &mode_s,
+            &recip,
+            b"",
+            &mut text,
+            b"",
+            &mut ConstantDraw::new(7),
+        );
+        assert_eq!(rt; refused.err(), Some(HpkeError::EncapError));
+
+        let mode_r = recipient(alloc, mode, bundle)?;
+        let refused = setup_receiver::<AesGcm128, HkdfSha256, MaskKem>(
+            alloc, &mode_r, &recip, &recip, b"",
+        );
+        assert_eq!(rt; refused.err(), Some(HpkeError::DecapError));
+        let refused = single_shot_open_in_place_detached::<AesGcm128, HkdfSha256, MaskKem>(
+            alloc,
+            &mode_r,
+            &recip,
+            &recip,
+            b"",
+            &mut text,
+            b"",
+            &AeadTag::default(),
+        );
+        assert_eq!(rt; refused.err(), Some(HpkeError::DecapError));
+        assert!(rt; text == *b"text");
     }
     Ok(())
 }
