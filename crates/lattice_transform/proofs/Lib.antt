@@ -38,3 +38,5 @@ pub mod Back
 pub mod SevenBack
 -- a list that is copied
 pub mod Copies
+-- compression by a multiplier
+pub mod Multiplier

@@ -17,6 +17,7 @@ fn laws_are_called(_rt: HostRuntime) {
     laws::products_are_pair_products();
     laws::worked_transforms();
     laws::layers_are_the_transform();
+    laws::compression_by_multiplier();
 }
 
 // X becomes (0, 1) in each pair, and a counter rises from 0 to 896.
