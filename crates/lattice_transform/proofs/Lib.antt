@@ -32,3 +32,11 @@ pub mod Seven
 pub mod ZetaTable
 -- the loop over the butterflies of a layer
 pub mod LayerLoop
+-- a layer, undone up to a factor
+pub mod Back
+-- seven layers back
+pub mod SevenBack
+-- a list that is copied
+pub mod Copies
+-- compression by a multiplier
+pub mod Multiplier

@@ -1,5 +1,5 @@
 -- Lists of 256 numbers, pair by pair.
-use Rattle.std.proofs.Common.{◌≡◌, ℕ, zero, suc, ◌+◌, ◌*◌, ◌/◌, ◌%◌, ◌<◌, List, [], ◌∷◌, length, get_or, refl, sym, ap, ◌∙◌, arith}
+use Rattle.std.proofs.Common.{◌≡◌, ℕ, zero, suc, ◌+◌, ◌*◌, ◌/◌, ◌%◌, ◌<◌, List, [], ◌∷◌, length, get_or, refl, subst, sym, ap, ◌∙◌, arith}
 use Rattle.std.specs.List.{flat_map, range_with_len}
 use Rattle.std.proofs.Math.Nat.{div-add-mod}
 use Rattle.std.proofs.lemmas.List.{ext_get_or}
@@ -60,3 +60,12 @@ same-pairs xs ys n long long2 same = ext_get_or 0 xs ys (long ∙ sym long2) (λ
     ap (λ (k : ℕ). get_or xs k 0) (sym whole)
     ∙ same (k % 2) (k / 2) (omega arith) (omega (arith, inside, long))
     ∙ ap (λ (k : ℕ). get_or ys k 0) whole)
+
+-- all numbers are below q where those of the rule are
+pub all-below-pairs : (t : ℕ → ℕ → ℕ) (n q : ℕ) → ((parity i : ℕ) → parity < 2 → i < n → t parity i < q)
+    → (k : ℕ) → k < 2 * n → get_or (pairs t 0 n) k 0 < q
+all-below-pairs t n q below k inside =
+    let whole : 2 * (k / 2) + k % 2 ≡ k = div-add-mod k 2 in
+    subst (λ x. x < q)
+    (sym (pairs-at t n (k % 2) (k / 2) (omega arith) (omega arith)) ∙ ap (λ (k : ℕ). get_or (pairs t 0 n) k 0) whole)
+    (below (k % 2) (k / 2) (omega arith) (omega arith))

@@ -96,11 +96,11 @@ minus-parts k a b =
 abbrev pub Squares : ℕ → ℕ → (ℕ → ℕ) → Type 0
 Squares m t root = (g s : ℕ) → g < t → s < t → (zeta (128 / m + g) ^ 2) ^ s % 3329 ≡ root g ^ s % 3329
 
-butterfly-of : (m t g r : ℕ) → m * t ≡ 128 → g < t → r < m → g * m + r < 128
+pub butterfly-of : (m t g r : ℕ) → m * t ≡ 128 → g < t → r < m → g * m + r < 128
 butterfly-of m t g r whole inside small = let much : m * suc g ≤ m * t = mul-le-mul_left m inside in omega arith
 
 -- the places of butterfly g·m + r
-first-at : (m g r : ℕ) → r < m → first_place m (g * m + r) ≡ 2 * g * m + r
+pub first-at : (m g r : ℕ) → r < m → first_place m (g * m + r) ≡ 2 * g * m + r
 first-at m g r small = first-is m (g * m + r) ∙ ap₂ (λ (a b : ℕ). 2 * a * m + b) (div-mul-add g m r small) (mod-mul-add g m r small)
 
 first-number : (m t g r : ℕ) (root : ℕ → ℕ) (f v : List ℕ) → 1 ≤ m → m * t ≡ 128 → length v ≡ 256 → Squares m t root → AreRemainders (2 * m) t root f v

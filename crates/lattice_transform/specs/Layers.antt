@@ -1,7 +1,7 @@
--- The transform by seven layers of butterflies (FIPS 203, section 4.3, algorithm 9), with q = 3329.
-use Rattle.std.specs.Prelude.{ℕ, zero, suc, ◌+◌, ◌*◌, ◌/◌, ◌^◌, ◌%◌, List}
+-- The transform by seven layers of butterflies (FIPS 203, section 4.3, algorithms 9 and 10), with q = 3329.
+use Rattle.std.specs.Prelude.{ℕ, zero, suc, ◌+◌, ◌-◌, ◌*◌, ◌/◌, ◌^◌, ◌%◌, List, slice_index, slice_set}
 use Rattle.module_lattice.specs.Pairs.{bit_rev7}
-use Rattle.module_lattice.specs.Ring.{butterfly}
+use Rattle.module_lattice.specs.Ring.{butterfly, minus, multiple, plus, times}
 
 -- 17^BitRev7(k), the zeta of group k. Groups are counted over all layers, from 1.
 unfoldable pub zeta : ℕ → ℕ
@@ -24,3 +24,24 @@ layer half f = butterflies half 128 f
 -- the seven layers
 abbrev pub layers : List ℕ → List ℕ
 layers f = layer 2 (layer 4 (layer 8 (layer 16 (layer 32 (layer 64 (layer 128 f))))))
+
+-- ---- the way back (algorithm 10)
+
+-- with a and b the numbers at i and j, a + b at i and zeta·(b - a) at j, modulo q
+abbrev pub inverse_butterfly : ℕ → ℕ → ℕ → List ℕ → List ℕ
+inverse_butterfly i j zeta f =
+    let a = slice_index f i in
+    let b = slice_index f j in
+    slice_set (slice_set f i (plus 3329 a b)) j (times 3329 zeta (minus 3329 b a))
+
+-- a list after the first n butterflies of the layer with this half-length. The zetas go downwards.
+unfoldable pub inverse_butterflies : ℕ → ℕ → List ℕ → List ℕ
+inverse_butterflies half zero f = f
+inverse_butterflies half (suc n) f = inverse_butterfly (first_place half n) (first_place half n + half) (zeta (2 * (128 / half) - 1 - n / half)) (inverse_butterflies half n f)
+
+abbrev pub inverse_layer : ℕ → List ℕ → List ℕ
+inverse_layer half f = inverse_butterflies half 128 f
+
+-- the seven layers from the last, and then the factor 3303, which is 1/128 modulo q
+abbrev pub inverse_layers : List ℕ → List ℕ
+inverse_layers h = multiple 3329 3303 (inverse_layer 128 (inverse_layer 64 (inverse_layer 32 (inverse_layer 16 (inverse_layer 8 (inverse_layer 4 (inverse_layer 2 h)))))))

@@ -1,10 +1,10 @@
-//! What holds of the transform and of its inverse.
+//! What holds of the transform and of its inverse, and of compression.
 
-ghost use Rattle.std.specs.Prelude.{◌≡◌, List, ℕ};
+ghost use Rattle.std.specs.Prelude.{◌≡◌, ◌+◌, ◌*◌, ◌/◌, ◌%◌, ◌^◌, ◌<◌, ◌≤◌, List, ℕ};
 ghost use Rattle.module_lattice.specs.Pairs.{pair_products};
 ghost use Rattle.module_lattice.specs.Ring.{IsPolynomial, product, sum};
 ghost use Rattle.module_lattice.specs.Worked.{worked_f, worked_g, worked_product, transform_of_f, transform_of_g, transform_of_product};
-ghost use Rattle.lattice_transform.specs.Layers.{layers};
+ghost use Rattle.lattice_transform.specs.Layers.{layers, inverse_layers};
 ghost use Rattle.lattice_transform.specs.Transform.{transform, inverse_transform};
 
 /// The transform and its inverse undo each other, on all polynomials.
@@ -34,7 +34,16 @@ pub fn worked_transforms()
     ensures inverse { inverse_transform transform_of_product ≡ worked_product }
 {}
 
-/// Seven layers of butterflies make the transform.
+/// Seven layers of butterflies make the transform, and seven layers from the last, with the factor
+/// 3303, its inverse.
 pub fn layers_are_the_transform()
-    ensures { (f : List ℕ) → IsPolynomial 3329 f → layers f ≡ transform f }
+    ensures transform { (f : List ℕ) → IsPolynomial 3329 f → layers f ≡ transform f }
+    ensures inverse { (h : List ℕ) → IsPolynomial 3329 h → inverse_layers h ≡ inverse_transform h }
+{}
+
+/// Compression to `d` bits (FIPS 203, section 4.2.1) by a multiplier in place of a division: 5160669 is
+/// 2^34 over 3329, rounded down.
+pub fn compression_by_multiplier()
+    ensures { (d x : ℕ) → d ≤ 11 → x < 3329
+        → (x * 2 ^ d + 1665) * 5160669 / 2 ^ 34 % 2 ^ d ≡ (2 ^ (d + 1) * x + 3329) / (2 * 3329) % 2 ^ d }
 {}

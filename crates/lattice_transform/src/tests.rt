@@ -1,10 +1,10 @@
-// Each law is called once, and the counted transform is run on X.
+// Each law is called once, and each transform is run on X.
 
 ghost use Rattle.std.specs.Prelude.{◌≡◌, ◌<◌, [], ◌∷◌};
 ghost use Rattle.std.specs.List.{flat_map, range_with_len};
 ghost use Rattle.module_lattice.specs.Ring.{power_of_x};
 
-use crate::{laws, ntt_counted};
+use crate::{laws, ntt, ntt_counted, ntt_inverse};
 use module_lattice::{BaseField, Polynomial, Steps};
 use std::marker::Brand;
 use std::process::Abort;
@@ -17,6 +17,7 @@ fn laws_are_called(_rt: HostRuntime) {
     laws::products_are_pair_products();
     laws::worked_transforms();
     laws::layers_are_the_transform();
+    laws::compression_by_multiplier();
 }
 
 // X becomes (0, 1) in each pair, and a counter rises from 0 to 896.
@@ -59,4 +60,15 @@ fn x_is_transformed_in_896_steps(rt: HostRuntime) {
     for i in 0..128 {
         assert_eq!(rt; (values[2 * i], values[2 * i + 1]), (0, 1));
     }
+}
+
+#[test]
+fn x_and_back(rt: HostRuntime) {
+    let f = x(&rt);
+    let transformed = ntt(&f);
+    for i in 0..128 {
+        assert_eq!(rt; transformed.coefficient(2 * i).get(), 0);
+        assert_eq!(rt; transformed.coefficient(2 * i + 1).get(), 1);
+    }
+    assert!(rt; ntt_inverse(&transformed) == f);
 }

@@ -1,0 +1,114 @@
+-- Seven layers back, with the factor 3303, are the inverse of the transform.
+use Rattle.std.proofs.Common.{◌≡◌, ℕ, ◌+◌, ◌-◌, ◌*◌, ◌/◌, ◌%◌, ◌<◌, List, length, get_or, map, refl, subst, sym, ap, ◌∙◌, arith}
+use Rattle.std.specs.List.{range_with_len}
+use Rattle.std.proofs.Math.Nat.{mod-eq_of_lt, mod-lt, mul_assoc}
+use Rattle.std.proofs.lemmas.List.{ext_get_or, get_or-map, get_or_default, length-map}
+use Rattle.std.proofs.lemmas.Nat.{mul-mod_second}
+use Rattle.module_lattice.specs.Ring.{IsPolynomial, multiple, times}
+use Rattle.lattice_transform.specs.Layers.{inverse_layer, inverse_layers, layer, layers, zeta}
+use Rattle.lattice_transform.specs.Transform.{inverse_coefficient, inverse_transform}
+use Rattle.lattice_transform.proofs.Back.{IsMultiple, Opposites, layer-undone}
+use Rattle.lattice_transform.proofs.Inverse.{length-inverse, transform-inverse}
+use Rattle.lattice_transform.proofs.Places.{all-below-pairs}
+use Rattle.lattice_transform.proofs.Remainders.{length-layer}
+use Rattle.lattice_transform.proofs.Roots.{from_table}
+use Rattle.lattice_transform.proofs.Seven.{layers-transform}
+use Rattle.lattice_transform.proofs.Sums.{times-mod}
+
+-- ---- the inverse is a polynomial
+
+pub IsPolynomial-inverse : (h : List ℕ) → IsPolynomial 3329 (inverse_transform h)
+unfolding inverse_transform
+IsPolynomial-inverse h = record {
+  size = length-inverse h;
+  each = λ k d inside. rw (get_or_default (inverse_transform h) k d 0 inside)
+      (all-below-pairs (inverse_coefficient h) 128 3329 (λ parity j low inside. mod-lt _ (omega arith)) k (omega (arith, inside, length-inverse h)));
+}
+
+-- ---- the zetas of the way back, by computation
+
+opposites-from : (m t : ℕ) → map (λ g. zeta (2 * (128 / m) - 1 - g) * zeta (128 / m + g) % 3329) (range_with_len 0 t) ≡ map (λ g. 3328) (range_with_len 0 t)
+    → Opposites m t
+opposites-from m t same g inside =
+    from_table (λ g. zeta (2 * (128 / m) - 1 - g) * zeta (128 / m + g) % 3329) (λ g. 3328) 0 t g same (omega arith) (omega arith)
+
+opposites_128 : map (λ g. zeta (2 * (128 / 128) - 1 - g) * zeta (128 / 128 + g) % 3329) (range_with_len 0 1) ≡ map (λ g. 3328) (range_with_len 0 1)
+unfolding zeta
+opposites_128 = refl
+
+opposites_64 : map (λ g. zeta (2 * (128 / 64) - 1 - g) * zeta (128 / 64 + g) % 3329) (range_with_len 0 2) ≡ map (λ g. 3328) (range_with_len 0 2)
+unfolding zeta
+opposites_64 = refl
+
+opposites_32 : map (λ g. zeta (2 * (128 / 32) - 1 - g) * zeta (128 / 32 + g) % 3329) (range_with_len 0 4) ≡ map (λ g. 3328) (range_with_len 0 4)
+unfolding zeta
+opposites_32 = refl
+
+opposites_16 : map (λ g. zeta (2 * (128 / 16) - 1 - g) * zeta (128 / 16 + g) % 3329) (range_with_len 0 8) ≡ map (λ g. 3328) (range_with_len 0 8)
+unfolding zeta
+opposites_16 = refl
+
+opposites_8 : map (λ g. zeta (2 * (128 / 8) - 1 - g) * zeta (128 / 8 + g) % 3329) (range_with_len 0 16) ≡ map (λ g. 3328) (range_with_len 0 16)
+unfolding zeta
+opposites_8 = refl
+
+opposites_4 : map (λ g. zeta (2 * (128 / 4) - 1 - g) * zeta (128 / 4 + g) % 3329) (range_with_len 0 32) ≡ map (λ g. 3328) (range_with_len 0 32)
+unfolding zeta
+opposites_4 = refl
+
+opposites_2 : map (λ g. zeta (2 * (128 / 2) - 1 - g) * zeta (128 / 2 + g) % 3329) (range_with_len 0 64) ≡ map (λ g. 3328) (range_with_len 0 64)
+unfolding zeta
+opposites_2 = refl
+
+-- ---- all layers
+
+factored : (x : ℕ) → x < 3329 → 3303 * (128 * x % 3329) % 3329 ≡ x
+factored x small =
+    let alone : 1 * x ≡ x = omega arith in
+    mul-mod_second 3303 (128 * x) 3329 ∙ ap (λ y. y % 3329) (sym (mul_assoc 3303 128 x))
+    ∙ times-mod 3329 (3303 * 128) 1 x x refl refl ∙ ap (λ y. y % 3329) alone ∙ mod-eq_of_lt small
+
+itself : (f : List ℕ) → length f ≡ 256 → ((n : ℕ) → n < 256 → get_or f n 0 < 3329) → IsMultiple 1 f f
+itself f long below = record {
+  size = long;
+  at = λ n inside.
+      let alone : 1 * get_or f n 0 ≡ get_or f n 0 = omega arith in
+      sym (ap (λ y. y % 3329) alone ∙ mod-eq_of_lt (below n inside));
+}
+
+seven : (u : List ℕ) → length u ≡ 256 → ((n : ℕ) → n < 256 → get_or (layers u) n 0 < 3329)
+    → IsMultiple 128 u (inverse_layer 128 (inverse_layer 64 (inverse_layer 32 (inverse_layer 16 (inverse_layer 8 (inverse_layer 4 (inverse_layer 2 (layers u))))))))
+seven u long below =
+    let l1 : length (layer 128 u) ≡ 256 = length-layer 128 1 (u) (omega arith) refl long in
+    let l2 : length (layer 64 (layer 128 u)) ≡ 256 = length-layer 64 2 (layer 128 u) (omega arith) refl l1 in
+    let l3 : length (layer 32 (layer 64 (layer 128 u))) ≡ 256 = length-layer 32 4 (layer 64 (layer 128 u)) (omega arith) refl l2 in
+    let l4 : length (layer 16 (layer 32 (layer 64 (layer 128 u)))) ≡ 256 = length-layer 16 8 (layer 32 (layer 64 (layer 128 u))) (omega arith) refl l3 in
+    let l5 : length (layer 8 (layer 16 (layer 32 (layer 64 (layer 128 u))))) ≡ 256 = length-layer 8 16 (layer 16 (layer 32 (layer 64 (layer 128 u)))) (omega arith) refl l4 in
+    let l6 : length (layer 4 (layer 8 (layer 16 (layer 32 (layer 64 (layer 128 u)))))) ≡ 256 = length-layer 4 32 (layer 8 (layer 16 (layer 32 (layer 64 (layer 128 u))))) (omega arith) refl l5 in
+    let w0 : IsMultiple 1 (layers u) (layers u) = itself (layers u) (length-layer 2 64 (layer 4 (layer 8 (layer 16 (layer 32 (layer 64 (layer 128 u)))))) (omega arith) refl l6) below in
+    let w1 : IsMultiple 2 (layer 4 (layer 8 (layer 16 (layer 32 (layer 64 (layer 128 u)))))) (inverse_layer 2 (layers u)) = layer-undone 2 64 1 (layer 4 (layer 8 (layer 16 (layer 32 (layer 64 (layer 128 u)))))) (layers u) (omega arith) refl (opposites-from 2 64 opposites_2) l6 w0 in
+    let w2 : IsMultiple 4 (layer 8 (layer 16 (layer 32 (layer 64 (layer 128 u))))) (inverse_layer 4 (inverse_layer 2 (layers u))) = layer-undone 4 32 2 (layer 8 (layer 16 (layer 32 (layer 64 (layer 128 u))))) (inverse_layer 2 (layers u)) (omega arith) refl (opposites-from 4 32 opposites_4) l5 w1 in
+    let w3 : IsMultiple 8 (layer 16 (layer 32 (layer 64 (layer 128 u)))) (inverse_layer 8 (inverse_layer 4 (inverse_layer 2 (layers u)))) = layer-undone 8 16 4 (layer 16 (layer 32 (layer 64 (layer 128 u)))) (inverse_layer 4 (inverse_layer 2 (layers u))) (omega arith) refl (opposites-from 8 16 opposites_8) l4 w2 in
+    let w4 : IsMultiple 16 (layer 32 (layer 64 (layer 128 u))) (inverse_layer 16 (inverse_layer 8 (inverse_layer 4 (inverse_layer 2 (layers u))))) = layer-undone 16 8 8 (layer 32 (layer 64 (layer 128 u))) (inverse_layer 8 (inverse_layer 4 (inverse_layer 2 (layers u)))) (omega arith) refl (opposites-from 16 8 opposites_16) l3 w3 in
+    let w5 : IsMultiple 32 (layer 64 (layer 128 u)) (inverse_layer 32 (inverse_layer 16 (inverse_layer 8 (inverse_layer 4 (inverse_layer 2 (layers u)))))) = layer-undone 32 4 16 (layer 64 (layer 128 u)) (inverse_layer 16 (inverse_layer 8 (inverse_layer 4 (inverse_layer 2 (layers u))))) (omega arith) refl (opposites-from 32 4 opposites_32) l2 w4 in
+    let w6 : IsMultiple 64 (layer 128 u) (inverse_layer 64 (inverse_layer 32 (inverse_layer 16 (inverse_layer 8 (inverse_layer 4 (inverse_layer 2 (layers u))))))) = layer-undone 64 2 32 (layer 128 u) (inverse_layer 32 (inverse_layer 16 (inverse_layer 8 (inverse_layer 4 (inverse_layer 2 (layers u)))))) (omega arith) refl (opposites-from 64 2 opposites_64) l1 w5 in
+    layer-undone 128 1 64 (u) (inverse_layer 64 (inverse_layer 32 (inverse_layer 16 (inverse_layer 8 (inverse_layer 4 (inverse_layer 2 (layers u))))))) (omega arith) refl (opposites-from 128 1 opposites_128) long w6
+
+pub inverse-layers : (h : List ℕ) → IsPolynomial 3329 h → inverse_layers h ≡ inverse_transform h
+inverse-layers h is =
+    let u : List ℕ = inverse_transform h in
+    let back : List ℕ → List ℕ = λ h. inverse_layer 128 (inverse_layer 64 (inverse_layer 32 (inverse_layer 16 (inverse_layer 8 (inverse_layer 4 (inverse_layer 2 h)))))) in
+    let polynomial : IsPolynomial 3329 u = IsPolynomial-inverse h in
+    let whole : layers u ≡ h = layers-transform u polynomial ∙ transform-inverse h is in
+    let below : (n : ℕ) → n < 256 → get_or (layers u) n 0 < 3329 = λ n inside.
+    subst (λ x. x < 3329) (ap (λ h. get_or h n 0) (sym whole)) (is.each n 0 (omega (arith, inside, is.size))) in
+    let all : IsMultiple 128 u (back (layers u)) = seven u polynomial.size below in
+    let done : multiple 3329 3303 (back (layers u)) ≡ u =
+    ext_get_or 0 (multiple 3329 3303 (back (layers u))) u
+    (length-map (back (layers u)) (times 3329 3303) ∙ all.size ∙ sym polynomial.size)
+    (λ n inside.
+    let low : n < 256 = omega (arith, inside, length-map (back (layers u)) (times 3329 3303), all.size) in
+    get_or-map (times 3329 3303) (back (layers u)) n 0 0 (omega (arith, low, all.size))
+    ∙ ap (λ x. 3303 * x % 3329) (all.at n low)
+    ∙ factored (get_or u n 0) (polynomial.each n 0 (omega (arith, low, polynomial.size)))) in
+    ap (λ h. multiple 3329 3303 (back h)) (sym whole) ∙ done

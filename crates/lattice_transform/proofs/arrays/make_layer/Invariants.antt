@@ -1,0 +1,11 @@
+use Rattle.std.proofs.Common.{◌≡◌}
+use Rattle.module_lattice.specs.Ring.{IsPolynomial}
+use Rattle.lattice_transform.specs.Layers.{butterflies}
+use Rattle.lattice_transform.proofs.arrays.make_layer.Given as goal
+
+-- the first k butterflies were made
+abbrev pub invariant-loop-k : goal.invariant-loop-k
+invariant-loop-k l = record {
+  made : l.values ≡ butterflies l.half l.k l.fn.values;
+  polynomial : IsPolynomial 3329 l.values;
+}

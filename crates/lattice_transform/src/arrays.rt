@@ -1,0 +1,127 @@
+//! The transform and its inverse, over arrays (FIPS 203, section 4.3, algorithms 9 and 10).
+
+ghost use Rattle.std.specs.Prelude.{◌≡◌, ◌*◌, ◌/◌, ◌<◌, ◌≤◌};
+ghost use Rattle.module_lattice.specs.Ring.{IsPolynomial, butterfly, multiple};
+ghost use Rattle.lattice_transform.specs.Layers.{inverse_butterfly, inverse_layer, layer};
+ghost use Rattle.lattice_transform.specs.Transform.{inverse_transform, transform};
+
+use crate::layers::BUTTERFLIES;
+use crate::zetas::zeta;
+use module_lattice::{BaseField, Elem, NttPolynomial, Polynomial};
+
+// The coefficients of a polynomial.
+const DEGREE: usize = 256;
+
+// 1/128 modulo 3329.
+const INVERSE_OF_128: u32 = 3303;
+
+/// The transform of a polynomial, in seven layers. It takes no memory.
+pub fn ntt(f: &Polynomial<BaseField>) -> NttPolynomial<BaseField>
+    ensures { result ≡ transform f.now }
+{
+    let mut values = f.into_array();
+    make_layer(&mut values, 128);
+    make_layer(&mut values, 64);
+    make_layer(&mut values, 32);
+    make_layer(&mut values, 16);
+    make_layer(&mut values, 8);
+    make_layer(&mut values, 4);
+    make_layer(&mut values, 2);
+    NttPolynomial::new(values)
+}
+
+/// The polynomial whose transform this is: seven layers from the last, and then the factor 3303. It
+/// takes no memory.
+pub fn ntt_inverse(f: &NttPolynomial<BaseField>) -> Polynomial<BaseField>
+    ensures { result ≡ inverse_transform f.now }
+{
+    let mut values = numbers(f);
+    undo_layer(&mut values, 2);
+    undo_layer(&mut values, 4);
+    undo_layer(&mut values, 8);
+    undo_layer(&mut values, 16);
+    undo_layer(&mut values, 32);
+    undo_layer(&mut values, 64);
+    undo_layer(&mut values, 128);
+    Elem::new(INVERSE_OF_128) * &Polynomial::new(values)
+}
+
+// The numbers of a polynomial in the transform domain.
+fn numbers(f: &NttPolynomial<BaseField>) -> [u32; DEGREE]
+    ensures value { result ≡ f.now }
+    ensures polynomial { IsPolynomial 3329 result }
+{
+    let mut values = [0; DEGREE];
+    for i in 0..DEGREE {
+        values[i] = f.coefficient(i).get();
+    }
+    values
+}
+
+// One layer, whose butterflies join places `half` apart.
+fn make_layer(values: &mut [u32; DEGREE], half: usize)
+    requires low { 2 ≤ half }
+    requires whole { half * (128 / half) ≡ 128 }
+    requires polynomial { IsPolynomial 3329 values.old }
+    ensures value { values.new ≡ layer half values.old }
+    ensures polynomial { IsPolynomial 3329 values.new }
+{
+    for k in 0..BUTTERFLIES {
+        let group = k / half;
+        let place = k + half * group;
+        butterfly(
+            values,
+            place,
+            place + half,
+            zeta(BUTTERFLIES / half + group),
+        );
+    }
+}
+
+// The layer that undoes it, up to a factor of 2. Its zetas go downwards.
+fn undo_layer(values: &mut [u32; DEGREE], half: usize)
+    requires low { 2 ≤ half }
+    requires whole { half * (128 / half) ≡ 128 }
+    requires polynomial { IsPolynomial 3329 values.old }
+    ensures value { values.new ≡ inverse_layer half values.old }
+    ensures polynomial { IsPolynomial 3329 values.new }
+{
+    for k in 0..BUTTERFLIES {
+        let group = k / half;
+        let place = k + half * group;
+        inverse_butterfly(
+            values,
+            place,
+            place + half,
+            zeta(2 * (BUTTERFLIES / half) - 1 - group),
+        );
+    }
+}
+
+// a + zeta·b at `i`, and a - zeta·b at `j`.
+fn butterfly(values: &mut [u32; DEGREE], i: usize, j: usize, zeta: Elem<BaseField>)
+    requires first { i < 256 }
+    requires second { j < 256 }
+    requires polynomial { IsPolynomial 3329 values.old }
+    ensures value { values.new ≡ butterfly 3329 i j zeta values.old }
+    ensures polynomial { IsPolynomial 3329 values.new }
+{
+    let a = Elem::<BaseField>::new(values[i]);
+    let turned = zeta * Elem::new(values[j]);
+    values[i] = (a + turned).get();
+    values[j] = (a - turned).get();
+}
+
+// a + b at `i`, and zeta·(b - a) at `j`.
+fn inverse_butterfly(values: &mut [u32; DEGREE], i: usize, j: usize, zeta: Elem<BaseField>)
+    requires first { i < 256 }
+    requires second { j < 256 }
+    requires polynomial { IsPolynomial 3329 values.old }
+    ensures value { values.new ≡ inverse_butterfly i j zeta values.old }
+    ensures polynomial { IsPolynomial 3329 values.new }
+{
+    let a = Elem::<BaseField>::new(values[i]);
+    let b = Elem::new(values[j]);
+    values[i] = (a + b).get();
+    values[j] = (zeta * (b - a)).get();
+}
