@@ -1,4 +1,7 @@
+mod Building
+mod Meanings
 mod Ranges
+mod Reduced
 mod Rounded
 mod Taken
 mod Totals

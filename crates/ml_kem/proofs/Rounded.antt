@@ -1,9 +1,10 @@
 -- Rounding.
 use Rattle.std.proofs.Common.{◌≡◌, ℕ, zero, suc, ◌+◌, ◌*◌, ◌/◌, ◌^◌, ◌<◌, ◌≤◌, List, All, Bool, map, arith, true, refl, ◌∙◌, ap, get_or, lit<, add-one, inl, inr}
-use Rattle.std.specs.Prelude.{◌==◌}
+use Rattle.std.specs.Prelude.{◌==◌, ◌⊎◌, nat_le}
+use Rattle.module_lattice.specs.Groups.{lcm}
 use Rattle.std.specs.List.{list_all, range_with_len}
 use Rattle.std.proofs.Math.Nat.{div-lt_iff_lt-mul, mod-lt, pow-le-pow_right, two-pow-succ}
-use Rattle.std.proofs.lemmas.Bool.{and_parts, cases_eq, eqb-true}
+use Rattle.std.proofs.lemmas.Bool.{and_parts, cases_eq, eqb-true, leb-true}
 use Rattle.std.proofs.lemmas.List.Elements.{All-map, All-weaker}
 use Rattle.std.proofs.lemmas.Nat.{pow_pos}
 use Rattle.ml_kem.specs.Rounding.{compress, decompress}
@@ -52,3 +53,19 @@ pub compress-decompress : (d y : ℕ) → 1 ≤ d → d ≤ 11 → y < 2 ^ d →
 compress-decompress d y positive narrow within =
     let width = passes-range (λ d. list_all (λ y. compress d (decompress d y) == y) (range_with_len 0 (2 ^ d))) 1 11 rounds_back d positive (omega arith) in
     eqb-true (compress d (decompress d y)) y (passes-range (λ y. compress d (decompress d y) == y) 0 (2 ^ d) width y (omega arith) (omega arith))
+
+-- numbers of d bits can be packed
+pub record WidthFits (d : ℕ) : Type 0 where
+  pub unit : lcm d 8 ≤ 128
+  pub width : (2 ^ d ≤ 3329) ⊎ ((d ≡ 12) × (4096 ≤ 2 * 3329))
+
+units_fit : list_all (λ d. nat_le (lcm d 8) 128) (range_with_len 1 11) ≡ true
+units_fit = refl
+
+pub width-fits : (d : ℕ) → 1 ≤ d → d ≤ 11 → WidthFits d
+width-fits d positive narrow =
+    let most : 2 ^ d ≤ 2 ^ 11 = pow-le-pow_right (lit< tt) narrow in
+    record {
+      unit = leb-true (lcm d 8) 128 (passes-range (λ d. nat_le (lcm d 8) 128) 1 11 units_fit d positive (omega arith));
+      width = inl (omega arith);
+    }

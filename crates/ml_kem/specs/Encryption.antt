@@ -1,12 +1,12 @@
 -- The encryption that ML-KEM stands on (FIPS 203, sections 5.2 and 5.3), over the ring.
-use Rattle.std.specs.Prelude.{ℕ, ◌*◌, List, ◌++◌, Option, take, drop, map}
-use Rattle.std.specs.List.{flat_map}
+use Rattle.std.specs.Prelude.{ℕ, ◌*◌, List, ◌++◌, Option, drop, map}
+use Rattle.std.specs.List.{flat_map, range_with_len}
 use Rattle.std.specs.Option.{option_map}
 use Rattle.kem_hash.specs.Family.{Family}
-use Rattle.module_lattice.specs.Groups.{decoded, decoded_each, groups}
+use Rattle.module_lattice.specs.Groups.{decoded, groups}
 use Rattle.module_lattice.specs.Ring.{difference, product, sum}
 use Rattle.module_lattice.specs.Vectors.{dot_product, matrix_product, vector_sum}
-use Rattle.ml_kem.specs.Keys.{rho_part, ring_vector, vector_part}
+use Rattle.ml_kem.specs.Keys.{piece, rho_part, ring_vector, vector_part}
 use Rattle.ml_kem.specs.Matrix.{matrix, noise, noise_polynomial, transposed}
 use Rattle.ml_kem.specs.Parameters.{Parameters, q}
 use Rattle.ml_kem.specs.Rounding.{compress, decompress}
@@ -39,9 +39,9 @@ encrypt set family ek m r =
 abbrev pub u_size : Parameters → ℕ
 u_size set = 32 * set.du * set.k
 
--- u of a ciphertext, after rounding
+-- u of a ciphertext, after rounding: polynomial i is piece i of 32·du bytes
 unfoldable pub rounded_u : Parameters → List ℕ → List (List ℕ)
-rounded_u set c = map (map (decompress set.du)) (decoded_each q set.du set.k (take (u_size set) c))
+rounded_u set c = map (λ i. decompressed set.du (piece (32 * set.du) i c)) (range_with_len 0 set.k)
 
 -- v of a ciphertext, after rounding
 unfoldable pub rounded_v : Parameters → List ℕ → List ℕ

@@ -1,9 +1,9 @@
 -- Keys (FIPS 203, sections 5.1 and 6.1), over the ring: A and t are no transforms here.
-use Rattle.std.specs.Prelude.{ℕ, ◌*◌, List, [], ◌∷◌, ◌++◌, Option, take, drop, map}
+use Rattle.std.specs.Prelude.{◌≡◌, ℕ, ◌*◌, ◌<◌, All, length, List, [], ◌∷◌, ◌++◌, Option, take, drop, map}
 use Rattle.std.specs.List.{flat_map}
 use Rattle.std.specs.Option.{option_map}
 use Rattle.kem_hash.specs.Family.{Family}
-use Rattle.module_lattice.specs.Groups.{decoded_each, groups}
+use Rattle.module_lattice.specs.Groups.{decoded_each, groups, ungroup}
 use Rattle.module_lattice.specs.Ring.{product}
 use Rattle.module_lattice.specs.Vectors.{matrix_product, vector_sum}
 use Rattle.ml_kem.specs.Matrix.{matrix, noise}
@@ -61,3 +61,16 @@ decoded_vector set bytes = decoded_each q 12 set.k bytes
 -- the polynomials of a vector part
 unfoldable pub ring_vector : Parameters → List ℕ → List (List ℕ)
 ring_vector set bytes = map inverse_transform (decoded_vector set bytes)
+
+-- piece i of bytes that are cut into pieces of one size
+abbrev pub piece : ℕ → ℕ → List ℕ → List ℕ
+piece size i bytes = take size (drop (size * i) bytes)
+
+-- no group of 12 bits of the first k polynomials is q or more
+abbrev pub IsReduced : ℕ → List ℕ → Type 0
+IsReduced k bytes = (i : ℕ) → i < k → All (λ x. x < q) (ungroup 12 (piece 384 i bytes))
+
+-- the two checks of an encapsulation key (section 7.2)
+pub record IsEncapsulationKey (set : Parameters) (bytes : List ℕ) : Type 0 where
+  pub size : length bytes ≡ set.ek_size
+  pub reduced : IsReduced set.k bytes

@@ -12,6 +12,8 @@ pub mod Matrix
 pub mod Keys
 -- encryption and decryption
 pub mod Encryption
+-- how a call answers a meaning that is a value or none
+pub mod Answers
 -- encapsulation and decapsulation
 pub mod Encapsulation
 -- a family of hash functions for tests, with its laws: no public clause cites it

@@ -2,13 +2,21 @@
 //! family of hash functions.
 #![tactic(auto)]
 
+mod ciphertext;
+mod encapsulation_key;
+mod encryption;
+mod error;
 pub mod laws;
+mod matrix;
 mod parameters;
 mod ring;
 mod rounding;
 mod sampling;
 mod transform;
 
+pub use ciphertext::Ciphertext;
+pub use encapsulation_key::EncapsulationKey;
+pub use error::{CiphertextError, KemError, KeyError};
 pub use parameters::{B32, MlKem512, MlKem768, MlKem1024, ParameterSet, Seed, SharedKey};
 pub use rounding::{compress, decompress};
 pub use sampling::{sample_ntt, sample_poly_cbd};

@@ -19,6 +19,9 @@ pub(crate) const Q: u32 = BaseField::Q;
 // The coefficients of a polynomial.
 pub(crate) const DEGREE: usize = 256;
 
+// The bytes of a polynomial of numbers below q.
+pub(crate) const POLYNOMIAL_BYTES: usize = 384;
+
 /// A parameter set. Contracts see it as `set`, which is one of the three sets of FIPS 203, and the
 /// constants are those of that set.
 pub trait ParameterSet {

@@ -1,10 +1,11 @@
 //! Compression and decompression (FIPS 203, section 4.2.1).
 
-ghost use Rattle.std.specs.Prelude.{◌≡◌, ◌^◌, ◌<◌, ◌≤◌, All, map};
+ghost use Rattle.std.specs.Prelude.{◌≡◌, ◌^◌, ◌<◌, ◌≤◌, ◌*◌, All, length, map};
+ghost use Rattle.ml_kem.specs.Encryption.{compressed, decompressed};
 ghost use Rattle.ml_kem.specs.Rounding.{compress, decompress};
 
-use crate::parameters::Q;
-use module_lattice::{BaseField, Polynomial};
+use crate::parameters::{DEGREE, Q};
+use module_lattice::{BaseField, Polynomial, byte_decode, byte_encode};
 
 /// Compress: the `d` bits of a number below 3329, rounded to the nearest. The width `d` is 1 to 11.
 pub fn compress(d: usize, x: u32) -> u32
@@ -29,26 +30,27 @@ pub fn decompress(d: usize, y: u32) -> u32
     (2 * Q * y + (1 << d)) >> (d + 1)
 }
 
-/// Each coefficient compressed.
-pub(crate) fn compress_polynomial(d: usize, f: &Polynomial<BaseField>) -> Polynomial<BaseField>
+/// Writes a polynomial, `d` bits for each coefficient, into 32·d bytes: ByteEncode of Compress.
+pub(crate) fn write_compressed(d: usize, f: &Polynomial<BaseField>, out: &mut [u8])
     requires positive { 1 ≤ d }
     requires narrow { d ≤ 11 }
-    ensures value { result ≡ map (compress d) f.now }
-    ensures in_width { All (λ x. x < 2 ^ d) result }
+    requires room { length out.old ≡ 32 * d }
+    ensures { out.new ≡ compressed d f.now }
 {
     let mut values = f.into_array();
     compress_each(d, &mut values);
-    Polynomial::new(values)
+    byte_encode::<BaseField>(d, &values, out);
 }
 
-/// Each coefficient, which is below 2^d, decompressed.
-pub(crate) fn decompress_polynomial(d: usize, f: &Polynomial<BaseField>) -> Polynomial<BaseField>
+/// The polynomial of 32·d bytes: Decompress of ByteDecode.
+pub(crate) fn read_decompressed(d: usize, bytes: &[u8]) -> Polynomial<BaseField>
     requires positive { 1 ≤ d }
     requires narrow { d ≤ 11 }
-    requires in_width { All (λ x. x < 2 ^ d) f.now }
-    ensures { result ≡ map (decompress d) f.now }
+    requires bytes { length bytes.now ≡ 32 * d }
+    ensures { result ≡ decompressed d bytes.now }
 {
-    let mut values = f.into_array();
+    let mut values = [0; DEGREE];
+    byte_decode::<BaseField>(d, bytes, &mut values);
     decompress_each(d, &mut values);
     Polynomial::new(values)
 }

@@ -1,8 +1,10 @@
 //! Rounding and transforms: worked values, and cases of an independent model that was written
 //! from the standard in another language.
 
+mod encapsulation;
 mod families;
 mod sampling;
+mod zero_draw;
 
 ghost use Rattle.std.specs.Prelude.{◌<◌};
 

@@ -1,0 +1,192 @@
+//! Encapsulation keys, and encapsulation (FIPS 203, section 7.2).
+
+ghost use Rattle.std.specs.Prelude.{◌≡◌, ◌≢◌, ◌↔◌, ◌*◌, ◌<◌, ◌≤◌, All, Err, IfErr, IfOk, IsTrue, drop, length, take};
+ghost use Rattle.rand_core.specs.Stream.{fill_bytes};
+ghost use Rattle.module_lattice.specs.Groups.{ungroup};
+ghost use Rattle.ml_kem.specs.Answers.{Answers};
+ghost use Rattle.ml_kem.specs.Encapsulation.{encaps};
+ghost use Rattle.ml_kem.specs.Keys.{IsEncapsulationKey, IsReduced};
+ghost use Rattle.ml_kem.specs.declared.error.KeyError.TheVariants.{InvalidKey, NoMemory};
+
+use crate::ciphertext::Ciphertext;
+use crate::encryption::{NUMBER_BITS, encrypt};
+use crate::error::{KemError, KeyError};
+use crate::parameters::{B32, DEGREE, POLYNOMIAL_BYTES, ParameterSet, SharedKey};
+use ctutils::CtEqSlice;
+use kem_hash::KemHash;
+use module_lattice::{BaseField, byte_decode, byte_encode};
+use rand_core::Rng;
+use std::alloc::{AllocError, Global};
+use std::marker::{Model, PhantomData};
+
+/// An encapsulation key: EK_SIZE bytes, which contracts see.
+#[derive(Drop)]
+#[derive_where(Debug)]
+pub struct EncapsulationKey<P: ParameterSet, H: KemHash> {
+    bytes: Vec<u8>,
+    set: PhantomData<P>,
+    hash: PhantomData<H>,
+}
+
+impl<P: ParameterSet, H: KemHash> Model for EncapsulationKey<P, H> {
+    ghost use Rattle.std.specs.Prelude.{ℕ, List};
+    ghost use Rattle.ml_kem.specs.Keys.{IsEncapsulationKey};
+
+    ghost Value = { List ℕ };
+
+    ghost view = { λ key. key.bytes.items };
+
+    ghost invariant = { λ key. IsEncapsulationKey P.set key.bytes.items };
+}
+
+impl<P: ParameterSet, H: KemHash> EncapsulationKey<P, H> {
+    /// The key of these bytes. `InvalidKey` comes exactly where their length isn't EK_SIZE or a group of
+    /// 12 bits of the vector part is 3329 or more.
+    pub fn new(alloc: Global, bytes: &[u8]) -> Result<EncapsulationKey<P, H>, KeyError>
+        ensures value { IfOk result (λ key. key ≡ bytes.now) }
+        ensures accepted { IfOk result (λ _. IsEncapsulationKey P.set bytes.now) }
+        ensures invalid { (result ≡ Err InvalidKey) ↔ (¬ IsEncapsulationKey P.set bytes.now) }
+    {
+        if !is_encapsulation_key::<P>(bytes) {
+            return Err(KeyError::InvalidKey);
+        }
+        let bytes = bytes.to_vec(alloc)?;
+        Ok(EncapsulationKey {
+            bytes,
+            set: PhantomData,
+            hash: PhantomData,
+        })
+    }
+
+    /// The bytes. It is refused at want of memory alone.
+    pub fn to_bytes(&self) -> Result<Vec<u8>, AllocError>
+        ensures { IfOk result (λ bytes. bytes.items ≡ self.now) }
+    {
+        let bytes = self.bytes.clone()?;
+        Ok(bytes)
+    }
+
+    /// Writes the bytes into `out`, which has EK_SIZE bytes. It takes no memory.
+    pub fn write_bytes(&self, out: &mut [u8])
+        requires { length out.old ≡ P.EK_SIZE }
+        ensures { out.new ≡ self.now }
+    {
+        out.copy_from_slice(self.bytes.as_slice());
+    }
+
+    /// The bytes.
+    pub(crate) fn as_slice(&self) -> &[u8]
+        ensures value { result.now ≡ self.now }
+        ensures is { IsEncapsulationKey P.set self.now }
+    {
+        self.bytes.as_slice()
+    }
+
+    /// A key of the same bytes. It is refused at want of memory alone.
+    pub fn try_clone(&self) -> Result<EncapsulationKey<P, H>, AllocError>
+        ensures { IfOk result (λ key. key ≡ self.now) }
+    {
+        let bytes = self.bytes.clone()?;
+        Ok(EncapsulationKey {
+            bytes,
+            set: PhantomData,
+            hash: PhantomData,
+        })
+    }
+
+    /// ML-KEM.Encaps_internal (algorithm 17): the ciphertext and the shared key that 32 bytes give.
+    ///
+    /// `XofExhausted` comes exactly where an entry of the matrix has fewer than 256 numbers below 3329.
+    pub fn encapsulate_deterministic(&self, m: &B32) -> Result<(Ciphertext<P>, SharedKey), KemError>
+        ensures { Answers (λ made. (made.0, made.1)) result (encaps P.set H.family self.now m.now) }
+    {
+        let alloc = *self.bytes.allocator();
+        let made = H::g(m, &H::h(self.bytes.as_slice()));
+        let (key, r) = halves(&made);
+        let c = encrypt::<P, H>(alloc, self.bytes.as_slice(), m, &r)?;
+        Ok((Ciphertext::from_vec(c), key))
+    }
+
+    /// ML-KEM.Encaps (algorithm 20) by 32 bytes of the random source, which are drawn by one call of
+    /// `fill_bytes`, also before a refusal.
+    ///
+    /// `XofExhausted` comes exactly where an entry of the matrix has fewer than 256 numbers below 3329.
+    pub fn encapsulate_with_rng<R: Rng>(
+        &self,
+        rng: &mut R,
+    ) -> Result<(Ciphertext<P>, SharedKey), KemError>
+        ensures drawn { R.stream rng.new ≡ (fill_bytes 32 (R.stream rng.old)).1 }
+        ensures value { Answers (λ made. (made.0, made.1)) result
+            (encaps P.set H.family self.now (fill_bytes 32 (R.stream rng.old)).0) }
+    {
+        let mut m = [0; 32];
+        rng.fill_bytes(&mut m);
+        self.encapsulate_deterministic(&m)
+    }
+}
+
+impl<P: ParameterSet, H: KemHash> PartialEq for EncapsulationKey<P, H> {
+    ghost use Rattle.std.specs.Prelude.{nat_eq};
+    ghost use Rattle.std.specs.Cmp.{nat_eq_equiv, partial_equiv_from_equiv};
+    ghost use Rattle.std.specs.Cmp.Lexicographic.{pointwise, lists_per};
+
+    ghost eq = { pointwise nat_eq };
+
+    ghost laws = { lists_per (partial_equiv_from_equiv nat_eq_equiv) };
+
+    fn eq(&self, other: &Self) -> bool {
+        self.bytes == other.bytes
+    }
+}
+
+impl<P: ParameterSet, H: KemHash> Eq for EncapsulationKey<P, H> {
+    ghost use Rattle.std.specs.Cmp.{nat_eq_equiv};
+    ghost use Rattle.std.specs.Cmp.Lexicographic.{lists_equiv};
+
+    ghost laws = { lists_equiv nat_eq_equiv };
+}
+
+/// The two halves of 64 bytes.
+pub(crate) fn halves(bytes: &[u8; 64]) -> (B32, B32)
+    ensures first { result.0 ≡ take 32 bytes.now }
+    ensures second { result.1 ≡ drop 32 bytes.now }
+{
+    let mut first = [0; 32];
+    first.copy_from_slice(&bytes[..32]);
+    let mut second = [0; 32];
+    second.copy_from_slice(&bytes[32..]);
+    (first, second)
+}
+
+// The checks of FIPS 203, section 7.2.
+fn is_encapsulation_key<P: ParameterSet>(bytes: &[u8]) -> bool
+    ensures { IsTrue result ↔ IsEncapsulationKey P.set bytes.now }
+{
+    bytes.len() == P::EK_SIZE && is_reduced(bytes, P::K)
+}
+
+// Whether no group of 12 bits of the first `k` polynomials is 3329 or more.
+fn is_reduced(bytes: &[u8], k: usize) -> bool
+    requires { 384 * k ≤ length bytes.now }
+    ensures { IsTrue result ↔ IsReduced k bytes.now }
+{
+    for i in 0..k {
+        let start = POLYNOMIAL_BYTES * i;
+        if !is_polynomial_reduced(&bytes[start..start + POLYNOMIAL_BYTES]) {
+            return false;
+        }
+    }
+    true
+}
+
+// Whether the bytes are those of the numbers that they decode to.
+fn is_polynomial_reduced(bytes: &[u8]) -> bool
+    requires { length bytes.now ≡ 384 }
+    ensures { IsTrue result ↔ All (λ x. x < 3329) (ungroup 12 bytes.now) }
+{
+    let mut values = [0; DEGREE];
+    byte_decode::<BaseField>(NUMBER_BITS, bytes, &mut values);
+    let mut again = [0; POLYNOMIAL_BYTES];
+    byte_encode::<BaseField>(NUMBER_BITS, &values, &mut again);
+    u8::ct_eq_slice(&again, bytes).to_bool()
+}
