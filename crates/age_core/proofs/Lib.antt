@@ -7,3 +7,5 @@ pub mod Steps
 pub mod Sights
 pub mod Fronts
 pub mod Completions
+pub mod Receipts
+pub mod Looks
