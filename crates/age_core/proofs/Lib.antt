@@ -9,3 +9,4 @@ pub mod Fronts
 pub mod Completions
 pub mod Receipts
 pub mod Looks
+pub mod Commands

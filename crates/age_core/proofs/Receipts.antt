@@ -137,6 +137,15 @@ receives_held a b l s is held same = record {
   told = took_none l;
 }
 
+-- a stanza that was given is held or to be read no more
+pub receives_less : (a b : Held) (l m : Option (List ℕ)) (s : Stanza) → Receives a b l m (s ∷ []) → length b.bytes + b.budget < length a.bytes + a.budget
+receives_less a b l m s r =
+    let whole : length a.bytes + length r.taken ≡ length (spelling s ++ []) + length b.bytes = sym (length-append a.bytes r.taken) ∙ (ap length r.whole ∙ length-append (spelling s ++ []) b.bytes) in
+    let some : length (spelling s ++ []) ≡ length (spelling s) = ap length (append-nil (spelling s)) in
+    let marked : 0 < length (spelling s) = omega arith in
+    let p = r.paid in
+    omega (arith, whole, some, marked, p)
+
 -- ---- readings
 
 -- the text that a reader and its source bring, and how much of it may be read

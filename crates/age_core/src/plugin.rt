@@ -2,6 +2,7 @@
 
 mod connection;
 mod reader;
+mod unidir;
 
 ghost use Rattle.std.specs.Prelude.{◌≡◌};
 ghost use Rattle.age_core.specs.declared.plugin.PhaseError.TheVariants.{NoMemory};
@@ -10,6 +11,7 @@ pub use connection::Connection;
 pub use reader::StanzaReader;
 use std::alloc::{AllocError, AllocFailed};
 use thiserror::Error;
+pub use unidir::UnidirAnswer;
 
 /// The first phase of a plugin that holds identities.
 pub const IDENTITY_V1: &str = "identity-v1";

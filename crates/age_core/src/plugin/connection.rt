@@ -15,9 +15,10 @@ use std::io::{Read, Write};
 /// A source, a sink, and a reader of the stanzas that come from the source.
 #[derive(Drop)]
 pub struct Connection<R, W> {
-    pub(super) source: R,
-    pub(super) sink: W,
-    pub(super) reader: StanzaReader,
+    pub(super) alloc: Global,
+    source: R,
+    sink: W,
+    reader: StanzaReader,
 }
 
 impl<R: Source, W: Sink> Connection<R, W> {
@@ -30,6 +31,7 @@ impl<R: Source, W: Sink> Connection<R, W> {
         ensures held { held_by result ≡ fresh budget }
     {
         Connection {
+            alloc,
             source,
             sink,
             reader: StanzaReader::new(alloc, budget),
@@ -42,6 +44,7 @@ impl<R: Source, W: Sink> Connection<R, W> {
         ensures sink { result.1 ≡ sink_of self }
     {
         let Connection {
+            alloc: _,
             source,
             sink,
             reader: _,
