@@ -199,7 +199,7 @@ sight_front (a ∷ b ∷ c ∷ text) q e =
 
 -- ---- a front is one of the three cases
 
-front_seen : (text : List ℕ) (found : Sight) → sight (To Start) text ≡ found → IsFront text → (q : Place) × (sight (To Start) text ≡ At q)
+pub front_seen : (text : List ℕ) (found : Sight) → sight (To Start) text ≡ found → IsFront text → (q : Place) × (sight (To Start) text ≡ At q)
 front_seen text (At q) e front = (q, e)
 front_seen text (Whole rest) e front = absurd (whole_no_front text rest e front)
 front_seen text Broken e front = absurd (broken_no_front text e front)

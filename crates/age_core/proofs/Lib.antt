@@ -7,3 +7,6 @@ pub mod Steps
 pub mod Sights
 pub mod Fronts
 pub mod Completions
+pub mod Receipts
+pub mod Looks
+pub mod Commands

@@ -8,6 +8,14 @@ pub mod Stanza
 pub mod Front
 -- the stanzas before the first `done`, within a budget
 pub mod Reading
+-- what receiving takes and gives
+pub mod Receiving
+-- what is seen of a connection
+pub mod Connecting
+-- what a phase gives to its commands
+pub mod Phases
+-- the tags that a phase is given: no public clause cites it
+pub mod Tags
 -- the scan that tells a front: no public clause cites it
 pub mod Sight
 -- the plain program that finds a stanza: no public clause cites it

@@ -1,11 +1,12 @@
 -- The scan of a text for the end of a stanza, byte by byte, on lists.
 -- The private functions compute it; no public clause cites it, and nothing here has to be believed.
-use Rattle.std.specs.Prelude.{◌≡◌, ℕ, ◌+◌, ◌≤◌, ◌==◌, ◌&&◌, ◌||◌, nat_le, Bool, if◌then◌else◌, List, [], ◌∷◌, length, take}
+use Rattle.std.specs.Prelude.{◌≡◌, ℕ, ◌+◌, ◌≤◌, ◌==◌, ◌&&◌, ◌||◌, nat_le, Bool, if◌then◌else◌, List, [], ◌∷◌, length, take, drop}
+use Rattle.base64.specs.declared.engine.general_purpose.GeneralPurpose.{GeneralPurpose}
 use Rattle.age_core.specs.declared.front.Place.{Place}
 use Rattle.age_core.specs.declared.front.Place.TheVariants.{Start, Dash, Arrow, Gap, Word, Line}
 use Rattle.age_core.specs.declared.front.Step.{Step}
 use Rattle.age_core.specs.declared.front.Step.TheVariants.{To, End, Bad}
-use Rattle.age_core.specs.Scan.{is_visible}
+use Rattle.age_core.specs.Scan.{is_visible, IsLineEngine}
 
 -- one of the 64 characters, by their ranges
 abbrev pub is_character : ℕ → Bool
@@ -41,3 +42,9 @@ sight Bad bs = Broken
 pub record IsSeen (text : List ℕ) (seen : ℕ) (place : Place) : Type 0 where
   pub within : seen ≤ length text
   pub place_is : sight (To Start) (take seen text) ≡ At place
+
+-- a reader's fields: what was given stands at the front of the buffer, and what follows was scanned so far
+pub record IsScanned (buffer : List ℕ) (given : ℕ) (engine : GeneralPurpose) (seen : ℕ) (place : Place) : Type 0 where
+  pub given_within : given ≤ length buffer
+  pub engine_is : IsLineEngine engine
+  pub seen_is : IsSeen (drop given buffer) seen place

@@ -1,10 +1,11 @@
 //! Laws of the definitions, each as the contract of a function that does nothing.
 
-ghost use Rattle.std.specs.Prelude.{◌≡◌, ℕ, ◌-◌, ◌^◌, List, [], ◌∷◌, ◌++◌, ◌↔◌, codes, replicate, Some};
+ghost use Rattle.std.specs.Prelude.{◌≡◌, ℕ, ◌+◌, ◌-◌, ◌^◌, ◌<◌, List, [], ◌∷◌, ◌++◌, ◌↔◌, length, codes, replicate, Option, Some};
 ghost use Rattle.age_core.specs.Outside.{last_count, Rose, GainsPart};
 ghost use Rattle.age_core.specs.Stanza.{Stanza, IsStanza, IsFront, spelling};
-ghost use Rattle.age_core.specs.Front.{IsFrontByCases};
-ghost use Rattle.age_core.specs.Reading.{HasNoDone, Reading, Reads, StandsBeforeDone, Before_done, Invalid_data, Unexpected_eof, Too_much};
+ghost use Rattle.age_core.specs.Front.{IsFrontByCases, IsMalformed};
+ghost use Rattle.age_core.specs.Receiving.{Held, Receives, Took, fresh};
+ghost use Rattle.age_core.specs.Reading.{HasNoDone, IsDone, NoneDone, Reading, Reads, StandsBeforeDone, Before_done, Invalid_data, Unexpected_eof, Too_much};
 
 /// Counts of faults at their edges: a count rises by one, and stands still at 2 ^ 64 - 1.
 pub fn worked_counts()
@@ -71,4 +72,48 @@ pub fn worked_readings()
     ensures invalid_data { Reads (codes "-> x" ++ 10 ∷ codes "/" ++ 10 ∷ []) 100 Invalid_data }
     ensures unexpected_eof { Reads (codes "-> done" ++ 10 ∷ []) 9 Unexpected_eof }
     ensures too_much { Reads (codes "-> done" ++ 10 ∷ 10 ∷ []) 8 Too_much }
+{}
+
+/// Runs of receiving join: the stanzas of one, and then those of the next.
+pub fn receiving_joins()
+    ensures { (one two three : Held) (left mid right : Option (List ℕ)) (stanzas others : List Stanza)
+        → Receives one two left mid stanzas → Receives two three mid right others → Receives one three left right (stanzas ++ others) }
+{}
+
+/// What receiving comes to up to a first `done`, or up to a refusal, is the reading of what was held,
+/// followed by what the source told, within the budget and the length of what was held. It doesn't
+/// depend on the pieces in which the source gave its bytes.
+pub fn receiving_is_reading()
+    ensures before_done { (before now : Held) (text : List ℕ) (left : Option (List ℕ)) (stanzas : List Stanza) (last : Stanza)
+        → Receives before now (Some text) left (stanzas ++ last ∷ []) → NoneDone stanzas → IsDone last
+        → Reads (before.bytes ++ text) (before.budget + length before.bytes) (Before_done stanzas) }
+    ensures invalid_data { (before now : Held) (text : List ℕ) (left : Option (List ℕ)) (stanzas : List Stanza)
+        → Receives before now (Some text) left stanzas → NoneDone stanzas → IsMalformed now.bytes
+        → Reads (before.bytes ++ text) (before.budget + length before.bytes) Invalid_data }
+    ensures unexpected_eof { (before now : Held) (text : List ℕ) (left : Option (List ℕ)) (stanzas : List Stanza)
+        → Receives before now (Some text) left stanzas → NoneDone stanzas → IsFront now.bytes → 0 < now.budget → left ≡ Some []
+        → Reads (before.bytes ++ text) (before.budget + length before.bytes) Unexpected_eof }
+    ensures too_much { (before now : Held) (text : List ℕ) (left : Option (List ℕ)) (stanzas : List Stanza)
+        → Receives before now (Some text) left stanzas → NoneDone stanzas → IsFront now.bytes → now.budget ≡ 0
+        → Reads (before.bytes ++ text) (before.budget + length before.bytes) Too_much }
+    // Before a fault of the source there was no whole `done`.
+    ensures read_fault { (before now : Held) (left left_now : Option (List ℕ)) (stanzas : List Stanza)
+        → Receives before now left left_now stanzas → NoneDone stanzas → IsFront now.bytes
+        → (taken : List ℕ) × Took left left_now taken × (before.budget ≡ now.budget + length taken) × HasNoDone (before.bytes ++ taken) now.bytes }
+{}
+
+/// The same from a reader that has read nothing: the reading of the told bytes within the budget.
+pub fn receiving_from_fresh_is_reading()
+    ensures before_done { (budget : ℕ) (now : Held) (text : List ℕ) (left : Option (List ℕ)) (stanzas : List Stanza) (last : Stanza)
+        → Receives (fresh budget) now (Some text) left (stanzas ++ last ∷ []) → NoneDone stanzas → IsDone last
+        → Reads text budget (Before_done stanzas) }
+    ensures invalid_data { (budget : ℕ) (now : Held) (text : List ℕ) (left : Option (List ℕ)) (stanzas : List Stanza)
+        → Receives (fresh budget) now (Some text) left stanzas → NoneDone stanzas → IsMalformed now.bytes
+        → Reads text budget Invalid_data }
+    ensures unexpected_eof { (budget : ℕ) (now : Held) (text : List ℕ) (left : Option (List ℕ)) (stanzas : List Stanza)
+        → Receives (fresh budget) now (Some text) left stanzas → NoneDone stanzas → IsFront now.bytes → 0 < now.budget → left ≡ Some []
+        → Reads text budget Unexpected_eof }
+    ensures too_much { (budget : ℕ) (now : Held) (text : List ℕ) (left : Option (List ℕ)) (stanzas : List Stanza)
+        → Receives (fresh budget) now (Some text) left stanzas → NoneDone stanzas → IsFront now.bytes → now.budget ≡ 0
+        → Reads text budget Too_much }
 {}

@@ -5,6 +5,7 @@ pub mod format;
 mod front;
 pub mod laws;
 pub mod outside;
+pub mod plugin;
 mod scan;
 #[cfg(test)]
 mod tests;

@@ -6,7 +6,7 @@ mod standard;
 ghost use Rattle.std.specs.Prelude.{◌≡◌, ◌≤◌, ◌<◌, ℕ, List, ◌++◌, length, take, Option, IfOk, OnErr, OnOk, IfSome};
 ghost use Rattle.age_core.specs.Outside.{Rose, Gives, Gains, GainsPart};
 
-pub use memory::{CleanSource, MemSink, MemSource};
+pub use memory::{CleanSource, MemSink, MemSource, NoSink};
 pub use standard::{StdSink, StdSource};
 use thiserror::Error;
 

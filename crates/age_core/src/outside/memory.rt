@@ -1,6 +1,6 @@
 //! Sources and a sink over memory.
 
-ghost use Rattle.std.specs.Prelude.{◌≡◌, ◌↔◌, ◌≤◌, ◌<◌, ◌⊎◌, ◌++◌, ℕ, List, [], true, false, length, take, drop, min, Contains, Option, Some, IfOk, OnErr, OnOk, IsErr, IsOk, IsTrue};
+ghost use Rattle.std.specs.Prelude.{◌≡◌, ◌↔◌, ◌≤◌, ◌<◌, ◌⊎◌, ◌++◌, ℕ, List, [], true, false, length, take, drop, min, Contains, Option, Some, None, Ok, IfOk, OnErr, OnOk, IsErr, IsOk, IsTrue};
 ghost use Rattle.age_core.specs.Outside.{Rose, Gives, Gains, next_count};
 
 use super::{Failed, Sink, Source};
@@ -242,6 +242,35 @@ impl Sink for MemSink {
             self.ran_out = true;
             return Err(Failed);
         }
+        Ok(piece.len())
+    }
+}
+
+/// A sink that takes every piece and drops it. It tells nothing, and never fails.
+#[derive(Drop)]
+pub struct NoSink;
+
+impl NoSink {
+    /// A sink that takes everything.
+    pub fn new() -> NoSink {
+        NoSink
+    }
+}
+
+impl Sink for NoSink {
+    ghost got = { λ _. None };
+
+    ghost faults = { λ _. 0 };
+
+    ghost plan = { λ _. [] };
+
+    fn write(&mut self, piece: &[u8]) -> Result<usize, Failed>
+        ensures all { result ≡ Ok (length piece.now) }
+
+        ensures count { IfOk result (λ n. n ≤ length piece.now) }
+        ensures some { IfOk result (λ n. 0 < length piece.now → 0 < n) }
+        ensures failed { OnErr result (Rose 0 0) }
+    {
         Ok(piece.len())
     }
 }

@@ -1,0 +1,40 @@
+use Rattle.std.proofs.Common.{◌≡◌, ℕ, List, [], ◌++◌, refl, ap, sym, subst, ◌∙◌, inl, inr, arith}
+use Rattle.age_core.specs.Stanza.{IsFront, stanza_of}
+use Rattle.age_core.specs.Receiving.{Held}
+use Rattle.age_core.proofs.Receipts.{receives_none, receives_both, receives_read, receives_held, behind_last}
+use Rattle.age_core.proofs.plugin.reader.StanzaReader.receive_from.Goals as goal
+
+pub loop-stanza-init : goal.loop-stanza-init
+loop-stanza-init g c = record {
+  received = receives_none c.args.self.now (g.S.Source.left c.args.source.now);
+  unread = λ _. (refl, refl);
+  last = inl refl;
+  faults = omega arith;
+}
+
+pub loop-stanza-preserved : goal.loop-stanza-preserved
+loop-stanza-preserved g c =
+    let left = g.S.Source.left in
+    let inv = c.loop-stanza.invariant in
+    let front = c.in_ok-stanza.ensures.front c.in-Front.is in
+    let read = c.in_ok-read_piece-in-Front.ensures.read in
+    let held : c.read_piece.new.self.bytes ≡ c.loop-stanza.self.bytes ++ read.0 = read.1 ∙ ap (λ (t : List ℕ). t ++ read.0) front.1 in
+    let more = receives_read c.loop-stanza.self c.read_piece.new.self (left c.loop-stanza.source) (left c.read_piece.new.source) read.0 held (sym c.look.ensures.budget ∙ read.4) read.5 in
+    record {
+      received = receives_both c.args.self.now c.loop-stanza.self c.read_piece.new.self (left c.args.source.now) (left c.loop-stanza.source) (left c.read_piece.new.source) [] [] inv.received more;
+      unread = λ none. absurd (none (subst (λ (h : Held). IsFront h.bytes) (inv.unread none).0 front.0));
+      last = inr (c.loop-stanza.self.bytes, read.0, held, front.0, read.2);
+      faults = omega (arith, c.in_ok-read_piece-in-Front.ensures.faults, inv.faults);
+    }
+
+pub returns-in-Stanza-clause-given : goal.returns-in-Stanza-clause-given
+returns-in-Stanza-clause-given g c =
+    let left = g.S.Source.left in
+    let stanza = c.in_ok-stanza.ensures.stanza c.in-Stanza.stanza c.in-Stanza.is in
+    let last = receives_held c.loop-stanza.self c.look.new.self (left c.loop-stanza.source) (stanza_of c.in-Stanza.stanza) stanza.0 stanza.1 c.look.ensures.budget in
+    receives_both c.args.self.now c.loop-stanza.self c.look.new.self (left c.args.source.now) (left c.loop-stanza.source) (left c.loop-stanza.source) [] _ c.loop-stanza.invariant.received last
+
+pub returns-in-Stanza-clause-behind : goal.returns-in-Stanza-clause-behind
+returns-in-Stanza-clause-behind g c none =
+    let stanza = c.in_ok-stanza.ensures.stanza c.in-Stanza.stanza c.in-Stanza.is in
+    behind_last c.args.self.now.bytes c.loop-stanza.self.bytes c.look.new.self.bytes (stanza_of c.in-Stanza.stanza) c.loop-stanza.invariant.last stanza.0 stanza.1 none

@@ -1,0 +1,19 @@
+use Rattle.std.proofs.Common.{◌≡◌, ◌≤◌, []}
+use Rattle.age_core.specs.Stanza.{IsFront}
+use Rattle.age_core.specs.Receiving.{Receives}
+use Rattle.age_core.proofs.Receipts.{LastPiece}
+use Rattle.age_core.proofs.plugin.reader.StanzaReader.receive_from.Given as goal
+
+-- what was read so far is held, and it was read behind fronts alone
+abbrev pub invariant-loop-stanza : goal.invariant-loop-stanza
+invariant-loop-stanza g l =
+    let left = g.S.Source.left in
+    record {
+      received : Receives l.fn.self l.self (left l.fn.source) (left l.source) [];
+      unread : (IsFront l.fn.self.bytes → ⊥) → (l.self ≡ l.fn.self) × (l.source ≡ l.fn.source);
+      last : LastPiece l.fn.self.bytes l.self.bytes;
+      faults : g.S.Source.faults l.fn.source ≤ g.S.Source.faults l.source;
+    }
+
+abbrev pub decreases-loop-stanza : goal.decreases-loop-stanza
+decreases-loop-stanza g l = l.self.budget
