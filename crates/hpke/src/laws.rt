@@ -5,12 +5,13 @@ ghost use Rattle.std.specs.Option.{option_map};
 ghost use Rattle.sha2.specs.Sha256.{sha256};
 ghost use Rattle.sha2.specs.Sha512.{sha384, sha512};
 ghost use Rattle.rand_core.specs.Stream.{fill_bytes};
+ghost use Rattle.hpke.specs.Answers.{Answers};
 ghost use Rattle.hpke.specs.Mask.{mask_decap, mask_encap, mask_public};
 ghost use Rattle.hpke.specs.Nonce.{nonce_of};
 ghost use Rattle.hpke.specs.RecipientMode.{recipient_mode, recipient_sender};
 ghost use Rattle.hpke.specs.SenderMode.{sender_mode, sender_identity};
-ghost use Rattle.hpke.specs.Schedule.{Context, Mode, Suite, sender_setup, receiver_setup};
-ghost use Rattle.hpke.specs.declared.error.HpkeError.TheVariants.{OpenError};
+ghost use Rattle.hpke.specs.Schedule.{Context, Mode, Suite, suite_of, sender_setup, receiver_setup};
+ghost use Rattle.hpke.specs.declared.error.HpkeError.TheVariants.{EncapError, OpenError};
 
 use crate::aead::{Aead, BaseAead};
 use crate::aes_gcm::{AesGcm128, AesGcm256};
@@ -59,24 +60,28 @@ pub fn mask_decapsulates()
 
 /// Sets up a sender's context, and a recipient's from the encapsulated key that it gives. Where both
 /// modes bring the same to the key schedule and decapsulation gives the secret that encapsulation
-/// gave, both are one context, at number 0.
+/// gave, both are one context, at number 0. `EncapError` comes exactly where `encap_of` is none.
 pub fn set_up_both<A: Aead, D: Kdf, K: Kem, R: Rng>(
     alloc: Global,
-    modes: (&OpModeS<'_, K>, &OpModeR<'_, K>),
+    mode_sender: &OpModeS<'_, K>,
+    mode_recip: &OpModeR<'_, K>,
     pk_recip: &K::PublicKey,
     sk_recip: &K::PrivateKey,
     info: &[u8],
     csprng: &mut R,
 ) -> Result<(AeadCtxS<A, D, K>, AeadCtxR<A, D, K>), HpkeError>
-    requires mode { sender_mode modes.0.now ≡ recipient_mode modes.1.now }
+    requires mode { sender_mode mode_sender.now ≡ recipient_mode mode_recip.now }
     requires secret { (secret enc : List ℕ)
-        → K.encap_of (K.PublicKey.bytes pk_recip.now) (sender_identity K.PrivateKey.bytes K.PublicKey.bytes modes.0.now)
+        → K.encap_of (K.PublicKey.bytes pk_recip.now) (sender_identity K.PrivateKey.bytes K.PublicKey.bytes mode_sender.now)
         (fill_bytes 32 (R.stream csprng.old)).0 ≡ Some (secret, enc)
-        → K.decap_of (K.PrivateKey.bytes sk_recip.now) (recipient_sender K.PublicKey.bytes modes.1.now) enc ≡ Some secret }
+        → K.decap_of (K.PrivateKey.bytes sk_recip.now) (recipient_sender K.PublicKey.bytes mode_recip.now) enc ≡ Some secret }
+    ensures value { Answers (λ sides. sides.0) EncapError result (option_map (λ made. made.1)
+        (sender_setup (suite_of K.KEM_ID D.kdf A.aead) (sender_mode mode_sender.now) info.now
+        (K.encap_of (K.PublicKey.bytes pk_recip.now) (sender_identity K.PrivateKey.bytes K.PublicKey.bytes mode_sender.now)
+        (fill_bytes 32 (R.stream csprng.old)).0))) }
     ensures same { IfOk result (λ sides. sides.0 ≡ sides.1) }
     ensures number { IfOk result (λ sides. sides.0.next ≡ Some 0) }
 {
-    let (mode_sender, mode_recip) = modes;
     let (encapped_key, sender) = setup_sender::<A, D, K, R>(
         alloc,
         mode_sender,
@@ -84,8 +89,11 @@ pub fn set_up_both<A: Aead, D: Kdf, K: Kem, R: Rng>(
         info,
         csprng,
     )?;
-    let recipient = setup_receiver::<A, D, K>(alloc, mode_recip, sk_recip, &encapped_key, info)?;
-    Ok((sender, recipient))
+    match setup_receiver::<A, D, K>(alloc, mode_recip, sk_recip, &encapped_key, info) {
+        Ok(recipient) => Ok((sender, recipient)),
+        // There is a secret, so nothing else is refused.
+        Err(_) => Err(HpkeError::NoMemory),
+    }
 }
 
 /// Where both sides have one context, what the sender seals under a number the recipient opens under

@@ -24,7 +24,8 @@ fn both_sides(alloc: Global) -> Result<(Sender, Recipient), Fail>
     mask_decapsulates();
     Ok(set_up_both(
         alloc,
-        (&OpModeS::Base, &OpModeR::Base),
+        &OpModeS::Base,
+        &OpModeR::Base,
         &key,
         &key,
         &[],
