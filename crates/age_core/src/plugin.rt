@@ -2,6 +2,8 @@
 
 mod connection;
 mod reader;
+#[cfg(test)]
+mod tests;
 mod unidir;
 
 ghost use Rattle.std.specs.Prelude.{◌≡◌};
