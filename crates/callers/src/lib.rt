@@ -3,7 +3,11 @@
 #![tactic(auto)]
 
 pub mod choices;
+pub mod ended_phases;
 pub mod key_derivation;
+pub mod multiplied_polynomials;
+pub mod opened_mails;
+pub mod rejected_secrets;
 pub mod sealed_contexts;
 pub mod sealed_records;
 pub mod tagged_values;

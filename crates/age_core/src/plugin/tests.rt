@@ -3,7 +3,7 @@
 
 use super::*;
 use crate::format::Stanza;
-use crate::outside::{CleanSource, MemSink, MemSource, NoSink, Sink};
+use crate::outside::{CleanSource, MemSink, MemSource, NoSink, Sink, Source, StdSink, StdSource};
 use std::alloc::{AllocError, Global};
 use std::test::Fail;
 
@@ -97,6 +97,17 @@ fn stanzas_come_in_any_pieces(rt: HostRuntime) -> std::result::Result<(), Fail> 
     Ok(())
 }
 
+/// A mail of an encapsulated key of zeros, and of no messages: 1490 bytes.
+fn long_mail(alloc: Global) -> std::result::Result<Vec<u8>, AllocError> {
+    text(
+        alloc,
+        b"-> kem\n",
+        b"AAAAAAAAAAAAAAAAAAAAAAAAAAAAAAAAAAAAAAAAAAAAAAAAAAAAAAAAAAAAAAAA\n",
+        22,
+        b"AAAAAAAAAAAAAAAAAAAAAAAAAAAAAAAAAAAAAAAAAAA\n-> done\n\n",
+    )
+}
+
 /// What a closure of a command does in the tests: it counts, and errs at stanzas without arguments.
 fn answer(stanza: &Stanza) -> std::result::Result<usize, usize> {
     if stanza.args.is_empty() {
@@ -176,5 +187,67 @@ fn errors_stand_alone_and_the_first_tag_wins(rt: HostRuntime) -> std::result::Re
     let (source, sink) = connection.into_parts();
     assert_eq!(rt; source.reads(), 11);
     assert_eq!(rt; sink.bytes(), b"kept".as_slice());
+    Ok(())
+}
+
+#[test]
+fn a_cut_mail_has_no_phase(rt: HostRuntime) -> std::result::Result<(), Fail> {
+    let mail = long_mail(rt.alloc())?;
+    assert_eq!(rt; mail.len(), 1490);
+    for n in 0..1490 {
+        let front = mail.get(..n).ok_or("a front")?;
+        let source = CleanSource::new(Vec::from_slice(rt.alloc(), front)?);
+        let mut connection = Connection::new(rt.alloc(), source, NoSink::new(), 1490);
+        let phase = connection.unidir_receive(
+            "kem",
+            |stanza: Stanza| answer(&stanza),
+            "msg",
+            |stanza: Stanza| answer(&stanza),
+            None,
+            |stanza: Stanza| answer(&stanza),
+            None,
+            |stanza: Stanza| answer(&stanza),
+        );
+        assert_eq!(rt; phase.err(), Some(PhaseError::UnexpectedEof), "{n}");
+    }
+    Ok(())
+}
+
+#[test]
+fn a_source_that_failed_goes_on(rt: HostRuntime) -> std::result::Result<(), Fail> {
+    let bytes = Vec::from_slice(rt.alloc(), STANZAS)?;
+    let fail_at = [0, 2, 3].to_vec(rt.alloc())?;
+    let mut source = MemSource::new(bytes, 7, fail_at);
+    let mut reader = StanzaReader::new(rt.alloc(), BUDGET);
+    let fault = Some(PhaseError::ReadFault);
+    for want in [fault, fault, fault, None, None, None] {
+        assert_eq!(rt; reader.receive_from(&mut source).err(), want);
+    }
+    Ok(())
+}
+
+#[test]
+fn a_connection_over_a_reader_and_a_writer(rt: HostRuntime) -> std::result::Result<(), Fail> {
+    let input = StdSource::new(STANZAS);
+    let output = StdSink::new(Vec::new(rt.alloc()));
+    let mut connection = Connection::accept(rt.alloc(), input, output, BUDGET);
+    let stanza = connection.receive().ok().ok_or("a stanza")?;
+    assert_eq!(rt; stanza.tag.as_str(), "a");
+    let (mut input, mut output) = connection.into_parts();
+    let mut buffer = [0; 1];
+    assert_eq!(rt; input.read(&mut buffer), Ok(0));
+    assert_eq!(rt; output.write(b"x"), Ok(1));
+    Ok(())
+}
+
+#[test]
+fn errors_have_their_texts(rt: HostRuntime) -> std::result::Result<(), Fail> {
+    for (error, want) in [
+        (Error::Fail, "General plugin protocol error"),
+        (Error::Unsupported, "Unsupported command"),
+    ] {
+        let text = format!(in rt.alloc(); "{error}")?;
+        assert_eq!(rt; text.as_str(), want);
+    }
     Ok(())
 }

@@ -1,0 +1,37 @@
+//! A caller of `age_core`.
+
+ghost use Rattle.std.specs.Prelude.{[], ◌∷◌, codes, IfOk, OnOk, OnErr};
+ghost use Rattle.age_core.specs.Outside.{Gains, GainsPart};
+ghost use Rattle.age_core.specs.Stanza.{Stanza as Spelled, stanza_of, spelling};
+ghost use Rattle.age_core.specs.Receiving.{Held, Receives, fresh};
+
+use age_core::format::Stanza;
+use age_core::laws;
+use age_core::outside::{Failed, Sink, Source, write_all};
+use age_core::plugin::{PhaseError, StanzaReader};
+use std::alloc::Global;
+
+/// Ends a phase: exactly the spelling of `done` is written, or at a fault a part of it.
+pub fn end_phase<W: Sink>(sink: &mut W) -> Result<(), Failed>
+    ensures written { let done : Spelled = record { tag = codes "done"; args = []; body = [] } in
+        OnOk result (Gains (W.got sink.old) (W.got sink.new) (spelling done)) }
+    ensures part { let done : Spelled = record { tag = codes "done"; args = []; body = [] } in
+        OnErr result (GainsPart (W.got sink.old) (W.got sink.new) (spelling done)) }
+{
+    laws::worked_spellings();
+    write_all(sink, b"-> done\n\n")
+}
+
+/// The first stanza of a source, of which so many bytes are read at most.
+pub fn first_stanza<S: Source>(
+    alloc: Global,
+    source: &mut S,
+    budget: u64,
+) -> Result<Stanza, PhaseError>
+    ensures { IfOk result (λ stanza. (now : Held)
+        × Receives (fresh budget) now (S.left source.old) (S.left source.new) (stanza_of stanza ∷ [])) }
+{
+    let mut reader = StanzaReader::new(alloc, budget);
+    let stanza = reader.receive_from(source)?;
+    Ok(stanza)
+}
