@@ -1,4 +1,6 @@
 mod Building
+mod Encoded
+mod Generated
 mod Meanings
 mod Ranges
 mod Reduced

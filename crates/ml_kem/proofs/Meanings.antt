@@ -1,5 +1,5 @@
 -- Answers to meanings that are made of others.
-use Rattle.std.proofs.Common.{◌≡◌, ℕ, ◌-◌, ◌*◌, ◌++◌, List, Option, None, Some, Err, length, take, drop, map, ap, ap₂, ◌∙◌, sym, arith, take_all, length-drop}
+use Rattle.std.proofs.Common.{◌≡◌, ◌≢◌, refl, Result, ℕ, ◌-◌, ◌*◌, ◌++◌, List, Option, None, Some, Err, length, take, drop, map, ap, ap₂, ◌∙◌, sym, arith, take_all, length-drop}
 use Rattle.std.specs.List.{flat_map, range_with_len}
 use Rattle.std.specs.Option.{option_map}
 use Rattle.kem_hash.specs.Family.{Family}
@@ -7,7 +7,7 @@ use Rattle.ml_kem.specs.Answers.{Answers}
 use Rattle.module_lattice.specs.Groups.{decoded_each}
 use Rattle.module_lattice.specs.Ring.{difference, product, sum}
 use Rattle.module_lattice.specs.Vectors.{dot_product, matrix_product, vector_sum}
-use Rattle.ml_kem.specs.Encapsulation.{encaps, key_and_coins}
+use Rattle.ml_kem.specs.Encapsulation.{chosen_key, decaps, encaps, key_and_coins}
 use Rattle.ml_kem.specs.Encryption.{compressed, decompressed, decrypt, encrypt, encrypted_with, rounded_u, rounded_v}
 use Rattle.ml_kem.specs.Keys.{decoded_vector, piece, rho_part, ring_vector, vector_part}
 use Rattle.ml_kem.specs.Matrix.{matrix, noise, noise_polynomial, transposed}
@@ -83,3 +83,38 @@ unfolding encaps
 encaps-some set family ek m made c is some =
     ap (λ (x : List ℕ). option_map (λ c. (c, take 32 x)) (encrypt set family ek m (drop 32 x))) (sym is)
     ∙ ap (option_map (λ c. (c, take 32 made))) some
+
+-- what is decapsulated, by the message and what G gives of it
+decaps-by : (set : Parameters) (family : Family) (s : List (List ℕ)) (ek z c m made : List ℕ) → m ≡ decrypt set s c → made ≡ key_and_coins family ek m
+    → decaps set family s ek z c ≡ option_map (chosen_key family (take 32 made) z c) (encrypt set family ek m (drop 32 made))
+unfolding decaps
+decaps-by set family s ek z c m made is_m is_made =
+    ap (λ (x : List ℕ). option_map (chosen_key family (take 32 (key_and_coins family ek x)) z c) (encrypt set family ek x (drop 32 (key_and_coins family ek x)))) (sym is_m)
+    ∙ ap (λ (x : List ℕ). option_map (chosen_key family (take 32 x) z c) (encrypt set family ek m (drop 32 x))) (sym is_made)
+
+pub decaps-none : (set : Parameters) (family : Family) (s : List (List ℕ)) (ek z c m made : List ℕ) → m ≡ decrypt set s c → made ≡ key_and_coins family ek m
+    → encrypt set family ek m (drop 32 made) ≡ None → decaps set family s ek z c ≡ None
+decaps-none set family s ek z c m made is_m is_made none =
+    decaps-by set family s ek z c m made is_m is_made ∙ ap (option_map (chosen_key family (take 32 made) z c)) none
+
+pub decaps-some : (set : Parameters) (family : Family) (s : List (List ℕ)) (ek z c m made again key : List ℕ) → m ≡ decrypt set s c → made ≡ key_and_coins family ek m
+    → encrypt set family ek m (drop 32 made) ≡ Some again → key ≡ chosen_key family (take 32 made) z c again → decaps set family s ek z c ≡ Some key
+decaps-some set family s ek z c m made again key is_m is_made some is_key =
+    decaps-by set family s ek z c m made is_m is_made ∙ ap (option_map (chosen_key family (take 32 made) z c)) some ∙ ap Some (sym is_key)
+
+-- encryption refuses where the matrix is none alone
+mapped-none : {X Y : Type 0} (f : X → Y) (o : Option X) → option_map f o ≡ None → o ≡ None
+mapped-none f None is = refl
+mapped-none f (Some x) is = absurd (cc)
+
+pub encrypt-none-from : (set : Parameters) (family : Family) (ek m r : List ℕ) → encrypt set family ek m r ≡ None → matrix family set.k (rho_part set ek) ≡ None
+unfolding encrypt
+encrypt-none-from set family ek m r is =
+    mapped-none (encrypted_with set family (ring_vector set (vector_part set ek)) m r) (matrix family set.k (rho_part set ek)) is
+
+pub not-exhausted : {X Y : Type 0} (view : X → Y) (e : KemError) (o : Option Y) → Answers view (Err e) o → o ≢ None → e ≢ XofExhausted
+not-exhausted view XofExhausted o answers some same = some answers
+not-exhausted view NoMemory o answers some same = cc
+
+pub same-error : {X : Type 0} (d e : KemError) → (let r : Result X KemError = Err d in r) ≡ Err e → d ≡ e
+same-error d e same = cc

@@ -1,5 +1,5 @@
 -- The transform and its inverse by pairs.
-use Rattle.std.proofs.Common.{◌≡◌, ℕ, zero, suc, ◌+◌, ◌-◌, ◌*◌, ◌%◌, ◌^◌, ◌<◌, ◌≤◌, List, [], ◌∷◌, All, map, slice_index, bit_and, ap, ◌∙◌, arith, lit<, ◌/◌}
+use Rattle.std.proofs.Common.{◌≡◌, ℕ, zero, suc, ◌+◌, ◌-◌, ◌*◌, ◌%◌, ◌^◌, ◌<◌, ◌≤◌, List, [], ◌∷◌, All, map, slice_index, bit_and, ap, ◌∙◌, arith, lit<, ◌/◌, refl, ap₂, length, length-append}
 use Rattle.std.specs.Int.{bit_at}
 use Rattle.std.specs.List.{flat_map, range_with_len}
 use Rattle.std.proofs.Math.Nat.{mod-eq_of_lt, mod-lt, mul-le-mul, pow-le-pow_right, two-pow-succ}
@@ -70,3 +70,13 @@ All-transform f = All-pairs (transform_pair f) (λ i. All-two _ _) 0 128
 pub All-inverse_transform : (h : List ℕ) → All (λ x. x < 3329) (inverse_transform h)
 unfolding inverse_transform
 All-inverse_transform h = All-pairs (inverse_pair h) (λ j. All-two _ _) 0 128
+
+length-pairs : (pair : ℕ → List ℕ) → ((i : ℕ) → length (pair i) ≡ 2) → (a n : ℕ) → length (flat_map pair (range_with_len a n)) ≡ 2 * n
+length-pairs pair each a zero = refl
+length-pairs pair each a (suc n) =
+    length-append (pair a) (flat_map pair (range_with_len (a + 1) n))
+    ∙ ap₂ (λ (x y : ℕ). x + y) (each a) (length-pairs pair each (a + 1) n) ∙ omega arith
+
+pub length-transform : (f : List ℕ) → length (transform f) ≡ 256
+unfolding transform
+length-transform f = length-pairs (transform_pair f) (λ i. refl) 0 128

@@ -16,5 +16,7 @@ pub mod Encryption
 pub mod Answers
 -- encapsulation and decapsulation
 pub mod Encapsulation
+-- what a decapsulation key holds, and its expanded form
+pub mod Expanded
 -- a family of hash functions for tests, with its laws: no public clause cites it
 pub mod Families

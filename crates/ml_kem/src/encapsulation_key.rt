@@ -1,20 +1,21 @@
 //! Encapsulation keys, and encapsulation (FIPS 203, section 7.2).
 
-ghost use Rattle.std.specs.Prelude.{◌≡◌, ◌≢◌, ◌↔◌, ◌*◌, ◌<◌, ◌≤◌, All, Err, IfErr, IfOk, IsTrue, drop, length, take};
+ghost use Rattle.std.specs.Prelude.{◌≡◌, ◌≢◌, ◌↔◌, ◌+◌, ◌*◌, ◌^◌, ◌<◌, ◌≤◌, ◌++◌, All, Err, IfErr, IfOk, IsTrue, drop, length, take};
+ghost use Rattle.std.specs.List.{flat_map};
 ghost use Rattle.rand_core.specs.Stream.{fill_bytes};
-ghost use Rattle.module_lattice.specs.Groups.{ungroup};
+ghost use Rattle.module_lattice.specs.Groups.{groups, ungroup};
 ghost use Rattle.ml_kem.specs.Answers.{Answers};
 ghost use Rattle.ml_kem.specs.Encapsulation.{encaps};
-ghost use Rattle.ml_kem.specs.Keys.{IsEncapsulationKey, IsReduced};
+ghost use Rattle.ml_kem.specs.Keys.{IsEncapsulationKey, IsReduced, encoded_vector};
 ghost use Rattle.ml_kem.specs.declared.error.KeyError.TheVariants.{InvalidKey, NoMemory};
 
 use crate::ciphertext::Ciphertext;
-use crate::encryption::{NUMBER_BITS, encrypt};
+use crate::encryption::{NUMBER_BITS, encrypt, transform_vector};
 use crate::error::{KemError, KeyError};
 use crate::parameters::{B32, DEGREE, POLYNOMIAL_BYTES, ParameterSet, SharedKey};
 use ctutils::CtEqSlice;
 use kem_hash::KemHash;
-use module_lattice::{BaseField, byte_decode, byte_encode};
+use module_lattice::{BaseField, Encode, NttVector, Vector, byte_decode, byte_encode};
 use rand_core::Rng;
 use std::alloc::{AllocError, Global};
 use std::marker::{Model, PhantomData};
@@ -58,6 +59,24 @@ impl<P: ParameterSet, H: KemHash> EncapsulationKey<P, H> {
         })
     }
 
+    /// The key of a vector of K polynomials and a seed.
+    pub(crate) fn from_parts(
+        alloc: Global,
+        t: &Vector<BaseField>,
+        rho: &B32,
+    ) -> Result<EncapsulationKey<P, H>, AllocError>
+        requires { length t.now ≡ P.K }
+        ensures { IfOk result (λ key. key ≡ encoded_vector t.now ++ rho.now) }
+    {
+        let transforms = transform_vector(alloc, t)?;
+        let bytes = key_bytes(alloc, P::EK_SIZE, &transforms, rho)?;
+        Ok(EncapsulationKey {
+            bytes,
+            set: PhantomData,
+            hash: PhantomData,
+        })
+    }
+
     /// The bytes. It is refused at want of memory alone.
     pub fn to_bytes(&self) -> Result<Vec<u8>, AllocError>
         ensures { IfOk result (λ bytes. bytes.items ≡ self.now) }
@@ -80,6 +99,11 @@ impl<P: ParameterSet, H: KemHash> EncapsulationKey<P, H> {
         ensures is { IsEncapsulationKey P.set self.now }
     {
         self.bytes.as_slice()
+    }
+
+    /// The allocator of the bytes.
+    pub(crate) fn allocator(&self) -> Global {
+        *self.bytes.allocator()
     }
 
     /// A key of the same bytes. It is refused at want of memory alone.
@@ -156,6 +180,32 @@ pub(crate) fn halves(bytes: &[u8; 64]) -> (B32, B32)
     let mut second = [0; 32];
     second.copy_from_slice(&bytes[32..]);
     (first, second)
+}
+
+// A vector of transforms and a seed, in `size` bytes.
+fn key_bytes(
+    alloc: Global,
+    size: usize,
+    transforms: &NttVector<BaseField>,
+    rho: &B32,
+) -> Result<Vec<u8>, AllocError>
+    requires narrow { All (λ f. All (λ x. x < 2 ^ 12) f) transforms.now }
+    requires size { size ≡ 384 * length transforms.now + 32 }
+    ensures { IfOk result (λ bytes. bytes.items ≡ flat_map (groups 12) transforms.now ++ rho.now) }
+{
+    let mut bytes = vec![in alloc; 0; size]?;
+    write_key(transforms, rho, bytes.as_mut_slice());
+    Ok(bytes)
+}
+
+fn write_key(transforms: &NttVector<BaseField>, rho: &B32, out: &mut [u8])
+    requires narrow { All (λ f. All (λ x. x < 2 ^ 12) f) transforms.now }
+    requires room { length out.old ≡ 384 * length transforms.now + 32 }
+    ensures { out.new ≡ flat_map (groups 12) transforms.now ++ rho.now }
+{
+    let end = POLYNOMIAL_BYTES * transforms.len();
+    transforms.encode(NUMBER_BITS, &mut out[..end]);
+    out[end..].copy_from_slice(rho);
 }
 
 // The checks of FIPS 203, section 7.2.

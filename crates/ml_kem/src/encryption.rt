@@ -1,6 +1,6 @@
 //! The encryption that ML-KEM stands on (FIPS 203, sections 5.2 and 5.3).
 
-ghost use Rattle.std.specs.Prelude.{◌≡◌, ◌*◌, ◌≤◌, ◌++◌, IfOk, length, map};
+ghost use Rattle.std.specs.Prelude.{◌≡◌, ◌*◌, ◌^◌, ◌<◌, ◌≤◌, ◌++◌, All, IfOk, length, map};
 ghost use Rattle.std.specs.List.{flat_map, range_with_len};
 ghost use Rattle.module_lattice.specs.Ring.{product, sum};
 ghost use Rattle.module_lattice.specs.Vectors.{dot_product, matrix_product, vector_sum, RowsHaveLength};
@@ -8,7 +8,7 @@ ghost use Rattle.ml_kem.specs.Answers.{Answers};
 ghost use Rattle.ml_kem.specs.Encryption.{compressed, decompressed, decrypt, encrypt, encrypted_with};
 ghost use Rattle.ml_kem.specs.Keys.{piece, ring_vector};
 ghost use Rattle.ml_kem.specs.Matrix.{noise, noise_polynomial, transposed};
-ghost use Rattle.ml_kem.specs.Transform.{inverse_transform};
+ghost use Rattle.ml_kem.specs.Transform.{inverse_transform, transform};
 
 use crate::error::KemError;
 use crate::matrix::{multiply_transposed, noise, sample_matrix};
@@ -16,7 +16,7 @@ use crate::parameters::{B32, POLYNOMIAL_BYTES, ParameterSet};
 use crate::ring::dot;
 use crate::rounding::{read_decompressed, write_compressed};
 use crate::sampling::noise_polynomial;
-use crate::transform::ntt_inverse;
+use crate::transform::{ntt, ntt_inverse};
 use kem_hash::KemHash;
 use module_lattice::{BaseField, Encode, NttVector, Polynomial, Vector};
 use std::alloc::{AllocError, Global};
@@ -83,6 +83,22 @@ pub(crate) fn inverse_vector(
         items.push(ntt_inverse(v.item(i)))?;
     }
     Ok(Vector::new(items))
+}
+
+/// The transform of each polynomial of a vector.
+pub(crate) fn transform_vector(
+    alloc: Global,
+    v: &Vector<BaseField>,
+) -> Result<NttVector<BaseField>, AllocError>
+    ensures value { IfOk result (λ out. out ≡ map transform v.now) }
+    ensures long { IfOk result (λ out. length out ≡ length v.now) }
+    ensures narrow { IfOk result (λ out. All (λ f. All (λ x. x < 2 ^ 12) f) out) }
+{
+    let mut items = Vec::new(alloc);
+    for i in 0..v.len() {
+        items.push(ntt(v.item(i)))?;
+    }
+    Ok(NttVector::new(items))
 }
 
 fn encrypt_with<P: ParameterSet, H: KemHash>(

@@ -3,6 +3,7 @@
 #![tactic(auto)]
 
 mod ciphertext;
+mod decapsulation_key;
 mod encapsulation_key;
 mod encryption;
 mod error;
@@ -15,6 +16,7 @@ mod sampling;
 mod transform;
 
 pub use ciphertext::Ciphertext;
+pub use decapsulation_key::DecapsulationKey;
 pub use encapsulation_key::EncapsulationKey;
 pub use error::{CiphertextError, KemError, KeyError};
 pub use parameters::{B32, MlKem512, MlKem768, MlKem1024, ParameterSet, Seed, SharedKey};

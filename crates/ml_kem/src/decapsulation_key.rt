@@ -1,0 +1,130 @@
+//! Decapsulation keys, key generation and decapsulation (FIPS 203, sections 7.1 and 7.3).
+
+ghost use Rattle.std.specs.Prelude.{◌≡◌, ◌≢◌, Err, IfOk, IsSome, length};
+ghost use Rattle.std.specs.Option.{option_map};
+ghost use Rattle.ml_kem.specs.Answers.{Answers};
+ghost use Rattle.module_lattice.specs.Ring.{product};
+ghost use Rattle.module_lattice.specs.Vectors.{matrix_product, vector_sum, RowsHaveLength};
+ghost use Rattle.ml_kem.specs.Encapsulation.{decaps};
+ghost use Rattle.ml_kem.specs.Expanded.{key_of_seed};
+ghost use Rattle.ml_kem.specs.Keys.{key_of};
+ghost use Rattle.ml_kem.specs.Matrix.{noise};
+ghost use Rattle.ml_kem.specs.declared.error.KemError.TheVariants.{XofExhausted};
+
+use crate::ciphertext::Ciphertext;
+use crate::encapsulation_key::{EncapsulationKey, halves};
+use crate::encryption::{decrypt, encrypt, transform_vector};
+use crate::error::KemError;
+use crate::matrix::{multiply_matrix, noise, sample_matrix};
+use crate::parameters::{B32, ParameterSet, Seed, SharedKey};
+use ctutils::{CtEqSlice, CtSelectArray};
+use kem_hash::KemHash;
+use module_lattice::{BaseField, NttVector, Vector};
+use std::alloc::{AllocError, Global};
+use std::marker::Model;
+
+/// A decapsulation key.
+#[derive(Drop)]
+pub struct DecapsulationKey<P: ParameterSet, H: KemHash> {
+    seed: Option<Seed>,
+    s: Vector<BaseField>,
+    s_hat: NttVector<BaseField>,
+    ek: EncapsulationKey<P, H>,
+    z: B32,
+}
+
+impl<P: ParameterSet, H: KemHash> Model for DecapsulationKey<P, H> {
+    ghost use Rattle.ml_kem.specs.Expanded.{IsSecretKey, SecretKey};
+
+    ghost Value = { SecretKey };
+
+    ghost view = { λ key. record { seed = key.seed; s = key.s; s_hat = key.s_hat; ek = key.ek; z = key.z } };
+
+    ghost invariant = { λ key. IsSecretKey P.set H.family (record { seed = key.seed; s = key.s; s_hat = key.s_hat; ek = key.ek; z = key.z }) };
+}
+
+impl<P: ParameterSet, H: KemHash> DecapsulationKey<P, H> {
+    /// ML-KEM.KeyGen_internal (algorithm 16): the key of d, the first half of the seed, and z, the
+    /// second.
+    ///
+    /// `XofExhausted` comes exactly where an entry of the matrix has fewer than 256 numbers below 3329.
+    pub fn from_seed(alloc: Global, seed: &Seed) -> Result<DecapsulationKey<P, H>, KemError>
+        ensures { Answers (λ key. key) result (option_map (key_of_seed seed.now) (key_of P.set H.family seed.now)) }
+    {
+        let (d, z) = halves(seed);
+        let made = H::g(&d, &[P::K as u8]);
+        let (rho, sigma) = halves(&made);
+        let rows = sample_matrix::<H>(alloc, P::K, &rho)?;
+        let s = noise::<H>(alloc, P::ETA1, &sigma, 0, P::K)?;
+        let t = public_vector::<P, H>(alloc, &rows, &s, &sigma)?;
+        let ek = EncapsulationKey::from_parts(alloc, &t, &rho)?;
+        let s_hat = transform_vector(alloc, &s)?;
+        Ok(DecapsulationKey {
+            seed: Some(*seed),
+            s,
+            s_hat,
+            ek,
+            z,
+        })
+    }
+
+    /// ML-KEM.Decaps_internal (algorithm 18): the shared key of a ciphertext, or the key of its rejection
+    /// where the message that it decrypts to encrypts to another ciphertext.
+    ///
+    /// `XofExhausted` comes exactly where an entry of the matrix has fewer than 256 numbers below 3329, so
+    /// never for a key from a seed.
+    pub fn decapsulate(&self, c: &Ciphertext<P>) -> Result<SharedKey, KemError>
+        ensures value { Answers (λ key. key) result (decaps P.set H.family self.now.s self.now.ek self.now.z c.now) }
+        ensures from_seed { IsSome self.now.seed → result ≢ Err XofExhausted }
+    {
+        let alloc = self.ek.allocator();
+        let m = decrypt::<P>(alloc, &self.s, c.as_slice())?;
+        let made = H::g(&m, &H::h(self.ek.as_slice()));
+        let (key, r) = halves(&made);
+        let again = encrypt::<P, H>(alloc, self.ek.as_slice(), &m, &r)?;
+        let rejected = H::j(&self.z, c.as_slice());
+        let is_same = u8::ct_eq_slice(again.as_slice(), c.as_slice());
+        Ok(u8::ct_select_array(&rejected, &key, is_same))
+    }
+
+    /// The seed, or none exactly for a key from an expanded form.
+    pub fn to_seed(&self) -> Option<Seed>
+        ensures { result ≡ self.now.seed }
+    {
+        self.seed
+    }
+
+    /// The seed, as [`DecapsulationKey::to_seed`] gives it.
+    pub fn to_bytes(&self) -> Option<Seed>
+        ensures { result ≡ self.now.seed }
+    {
+        self.to_seed()
+    }
+
+    /// The public key.
+    pub fn encapsulation_key(&self) -> &EncapsulationKey<P, H>
+        ensures { result.now ≡ self.now.ek }
+    {
+        &self.ek
+    }
+}
+
+// t: A·s and noise.
+fn public_vector<P: ParameterSet, H: KemHash>(
+    alloc: Global,
+    rows: &Vec<Vector<BaseField>>,
+    s: &Vector<BaseField>,
+    sigma: &B32,
+) -> Result<Vector<BaseField>, AllocError>
+    requires count { length rows.now.items ≡ P.K }
+    requires rows { RowsHaveLength P.K rows.now.items }
+    requires long { length s.now ≡ P.K }
+    ensures value { IfOk result (λ t. t ≡ vector_sum 3329 (matrix_product 3329 (product 3329) rows.now.items s.now)
+        (noise H.family P.ETA1 sigma.now P.K P.K)) }
+    ensures long { IfOk result (λ t. length t ≡ P.K) }
+{
+    let multiplied = multiply_matrix(alloc, rows, s)?;
+    let e = noise::<H>(alloc, P::ETA1, sigma, P::K, P::K)?;
+    let t = multiplied.add(&e)?;
+    Ok(t)
+}
