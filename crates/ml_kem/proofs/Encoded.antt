@@ -8,7 +8,7 @@ use Rattle.module_lattice.specs.Groups.{groups, ungroup}
 use Rattle.module_lattice.proofs.Regrouping.{length-regroup, regroup-regroup}
 use Rattle.ml_kem.specs.Keys.{IsEncapsulationKey, encoded_vector, piece, rho_part}
 use Rattle.ml_kem.specs.Parameters.{IsSet, Parameters}
-use Rattle.ml_kem.specs.Transform.{transform}
+use Rattle.lattice_transform.specs.Transform.{transform}
 use Rattle.ml_kem.proofs.Transforms.{All-transform, length-transform}
 
 -- transforms are numbers of 12 bits

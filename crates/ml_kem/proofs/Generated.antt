@@ -8,7 +8,7 @@ use Rattle.ml_kem.specs.Expanded.{SecretKey, key_of_seed}
 use Rattle.ml_kem.specs.Keys.{encoded_vector, expanded_seed, key_of, key_with}
 use Rattle.ml_kem.specs.Matrix.{matrix, noise}
 use Rattle.ml_kem.specs.Parameters.{Parameters}
-use Rattle.ml_kem.specs.Transform.{transform}
+use Rattle.lattice_transform.specs.Transform.{transform}
 
 pub key_of-none : (set : Parameters) (family : Family) (seed made : List ℕ) → made ≡ expanded_seed set family seed
     → matrix family set.k (take 32 made) ≡ None → option_map (key_of_seed seed) (key_of set family seed) ≡ None

@@ -12,7 +12,7 @@ use Rattle.ml_kem.specs.Encryption.{compressed, decompressed, decrypt, encrypt, 
 use Rattle.ml_kem.specs.Keys.{decoded_vector, piece, rho_part, ring_vector, vector_part}
 use Rattle.ml_kem.specs.Matrix.{matrix, noise, noise_polynomial, transposed}
 use Rattle.ml_kem.specs.Parameters.{Parameters}
-use Rattle.ml_kem.specs.Transform.{inverse_transform}
+use Rattle.lattice_transform.specs.Transform.{inverse_transform}
 use Rattle.ml_kem.specs.declared.error.KemError.{KemError}
 use Rattle.ml_kem.specs.declared.error.KemError.TheVariants.{NoMemory, XofExhausted}
 

@@ -6,7 +6,7 @@ use Rattle.module_lattice.specs.Groups.{groups}
 use Rattle.ml_kem.specs.Keys.{IsEncapsulationKey, Key, decoded_vector, rho_part, ring_vector, vector_size}
 use Rattle.ml_kem.specs.Matrix.{matrix}
 use Rattle.ml_kem.specs.Parameters.{Parameters}
-use Rattle.ml_kem.specs.Transform.{transform}
+use Rattle.lattice_transform.specs.Transform.{transform}
 
 -- a decapsulation key: the seed that it was made of, if it was made of one, the vector s, its
 -- transforms, the encapsulation key and the secret z of rejections

@@ -8,7 +8,7 @@ use Rattle.module_lattice.specs.Ring.{product}
 use Rattle.module_lattice.specs.Vectors.{matrix_product, vector_sum}
 use Rattle.ml_kem.specs.Matrix.{matrix, noise}
 use Rattle.ml_kem.specs.Parameters.{Parameters, q}
-use Rattle.ml_kem.specs.Transform.{inverse_transform, transform}
+use Rattle.lattice_transform.specs.Transform.{inverse_transform, transform}
 
 -- what key generation makes of a seed
 pub record Key : Type 0 where

@@ -1,7 +1,5 @@
 -- the table of parameter sets
 pub mod Parameters
--- the number-theoretic transform and its inverse
-pub mod Transform
 -- compression and decompression
 pub mod Rounding
 -- sampling of polynomials

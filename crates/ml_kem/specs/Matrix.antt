@@ -4,7 +4,7 @@ use Rattle.std.specs.List.{range_with_len, slice_index_or}
 use Rattle.std.specs.Option.{option_map}
 use Rattle.kem_hash.specs.Family.{Family}
 use Rattle.ml_kem.specs.Samples.{cbd, sample}
-use Rattle.ml_kem.specs.Transform.{inverse_transform}
+use Rattle.lattice_transform.specs.Transform.{inverse_transform}
 
 -- each value, or none where one of them is none
 abbrev pub all_or_none : {X : Type 0} → List (Option X) → Option (List X)

@@ -8,7 +8,7 @@ ghost use Rattle.ml_kem.specs.Answers.{Answers};
 ghost use Rattle.ml_kem.specs.Encryption.{compressed, decompressed, decrypt, encrypt, encrypted_with};
 ghost use Rattle.ml_kem.specs.Keys.{piece, ring_vector};
 ghost use Rattle.ml_kem.specs.Matrix.{noise, noise_polynomial, transposed};
-ghost use Rattle.ml_kem.specs.Transform.{inverse_transform, transform};
+ghost use Rattle.lattice_transform.specs.Transform.{inverse_transform, transform};
 
 use crate::error::KemError;
 use crate::matrix::{multiply_transposed, noise, sample_matrix};
@@ -16,8 +16,8 @@ use crate::parameters::{B32, POLYNOMIAL_BYTES, ParameterSet};
 use crate::ring::dot;
 use crate::rounding::{read_decompressed, write_compressed};
 use crate::sampling::noise_polynomial;
-use crate::transform::{ntt, ntt_inverse};
 use kem_hash::KemHash;
+use lattice_transform::{ntt, ntt_inverse};
 use module_lattice::{BaseField, Encode, NttVector, Polynomial, Vector};
 use std::alloc::{AllocError, Global};
 

@@ -4,7 +4,7 @@ ghost use Rattle.std.specs.Prelude.{◌≡◌, ◌^◌, ◌<◌, ◌≤◌, ℕ,
 ghost use Rattle.std.specs.List.{flat_map, range_with_len};
 ghost use Rattle.module_lattice.specs.Ring.{power_of_x};
 ghost use Rattle.ml_kem.specs.Rounding.{compress, decompress};
-ghost use Rattle.ml_kem.specs.Transform.{transform};
+ghost use Rattle.lattice_transform.specs.Transform.{transform};
 
 /// Worked transforms: that of X is (0, 1) in each pair, and that of X^2 begins with the pairs (17, 0)
 /// and (3312, 0).

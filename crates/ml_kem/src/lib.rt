@@ -13,16 +13,15 @@ mod parameters;
 mod ring;
 mod rounding;
 mod sampling;
-mod transform;
 
 pub use ciphertext::Ciphertext;
 pub use decapsulation_key::DecapsulationKey;
 pub use encapsulation_key::EncapsulationKey;
 pub use error::{CiphertextError, KemError, KeyError};
+pub use lattice_transform::{ntt, ntt_counted, ntt_inverse};
 pub use parameters::{B32, MlKem512, MlKem768, MlKem1024, ParameterSet, Seed, SharedKey};
 pub use rounding::{compress, decompress};
 pub use sampling::{sample_ntt, sample_poly_cbd};
-pub use transform::{ntt, ntt_inverse};
 
 #[cfg(test)]
 mod tests;

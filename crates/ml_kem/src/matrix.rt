@@ -10,8 +10,8 @@ use crate::error::KemError;
 use crate::parameters::B32;
 use crate::ring::dot;
 use crate::sampling::{noise_polynomial, sample_ntt};
-use crate::transform::ntt_inverse;
 use kem_hash::KemHash;
+use lattice_transform::ntt_inverse;
 use module_lattice::{BaseField, Polynomial, Vector};
 use std::alloc::{AllocError, Global};
 

@@ -1,5 +1,5 @@
 use Rattle.std.proofs.Common.{◌++◌, ◌∷◌, [], ap, ◌∙◌, arith}
-use Rattle.ml_kem.specs.Transform.{inverse_transform}
+use Rattle.lattice_transform.specs.Transform.{inverse_transform}
 use Rattle.ml_kem.proofs.Building.{map-more, read}
 use Rattle.ml_kem.proofs.encryption.inverse_vector.Goals as goal
 

@@ -1,5 +1,5 @@
 use Rattle.std.proofs.Common.{◌≡◌, map, take}
-use Rattle.ml_kem.specs.Transform.{inverse_transform}
+use Rattle.lattice_transform.specs.Transform.{inverse_transform}
 use Rattle.ml_kem.proofs.encryption.inverse_vector.Given as goal
 
 abbrev pub invariant-loop-i : goal.invariant-loop-i

@@ -1,6 +1,6 @@
 use Rattle.std.proofs.Common.{◌++◌, ◌∷◌, [], ℕ, ◌<◌, ◌^◌, List, All, ap, ◌∙◌, arith}
 use Rattle.std.proofs.lemmas.List.Elements.{All-same}
-use Rattle.ml_kem.specs.Transform.{transform}
+use Rattle.lattice_transform.specs.Transform.{transform}
 use Rattle.ml_kem.proofs.Building.{map-all, map-more, read}
 use Rattle.ml_kem.proofs.Encoded.{All-transforms}
 use Rattle.ml_kem.proofs.encryption.transform_vector.Goals as goal

@@ -1,5 +1,5 @@
 use Rattle.std.proofs.Common.{◌≡◌, map, take}
-use Rattle.ml_kem.specs.Transform.{transform}
+use Rattle.lattice_transform.specs.Transform.{transform}
 use Rattle.ml_kem.proofs.encryption.transform_vector.Given as goal
 
 abbrev pub invariant-loop-i : goal.invariant-loop-i

@@ -1,6 +1,6 @@
 use Rattle.std.proofs.Common.{refl}
 use Rattle.module_lattice.specs.Pairs.{gamma}
-use Rattle.ml_kem.specs.Transform.{transform}
+use Rattle.lattice_transform.specs.Transform.{transform}
 use Rattle.ml_kem.proofs.laws.worked_transforms.Goals as goal
 
 pub returns-clause-of_x : goal.returns-clause-of_x
