@@ -1,6 +1,7 @@
 //! Rounding and transforms: worked values, and cases of an independent model that was written
 //! from the standard in another language.
 
+mod decapsulation;
 mod encapsulation;
 mod families;
 mod sampling;
