@@ -20,7 +20,7 @@ All-transforms [] = All-nil (λ f. All (λ x. x < 2 ^ 12) f)
 All-transforms (f ∷ v) = All-cons (λ f. All (λ x. x < 2 ^ 12) f) (transform f) (map transform v) (All-transform-narrow f) (All-transforms v)
 
 -- a polynomial in 384 bytes
-length-encoded : (f : List ℕ) → length f ≡ 256 → length (groups 12 f) ≡ 384
+pub length-encoded : (f : List ℕ) → length f ≡ 256 → length (groups 12 f) ≡ 384
 unfolding groups
 length-encoded f long = length-regroup 12 8 384 f (omega arith) (ap (λ (k : ℕ). 12 * k) long)
 
@@ -64,6 +64,26 @@ ek_size-is set is = elim is [
   | inr rest ↦ elim rest [
     | inl e ↦ ap (λ (s : Parameters). s.ek_size) e ∙ sym (ap (λ (s : Parameters). 384 * s.k + 32) e)
     | inr e ↦ ap (λ (s : Parameters). s.ek_size) e ∙ sym (ap (λ (s : Parameters). 384 * s.k + 32) e)
+  ]
+]
+
+-- the size of a ciphertext
+pub ct_size-is : (set : Parameters) → IsSet set → set.ct_size ≡ 32 * (set.du * set.k + set.dv)
+ct_size-is set is = elim is [
+  | inl e ↦ ap (λ (s : Parameters). s.ct_size) e ∙ sym (ap (λ (s : Parameters). 32 * (s.du * s.k + s.dv)) e)
+  | inr rest ↦ elim rest [
+    | inl e ↦ ap (λ (s : Parameters). s.ct_size) e ∙ sym (ap (λ (s : Parameters). 32 * (s.du * s.k + s.dv)) e)
+    | inr e ↦ ap (λ (s : Parameters). s.ct_size) e ∙ sym (ap (λ (s : Parameters). 32 * (s.du * s.k + s.dv)) e)
+  ]
+]
+
+-- the size of an expanded form
+pub dk_size-is : (set : Parameters) → IsSet set → 384 * set.k + set.ek_size + 32 + 32 ≡ set.dk_size
+dk_size-is set is = elim is [
+  | inl e ↦ ap (λ (s : Parameters). 384 * s.k + s.ek_size + 32 + 32) e ∙ sym (ap (λ (s : Parameters). s.dk_size) e)
+  | inr rest ↦ elim rest [
+    | inl e ↦ ap (λ (s : Parameters). 384 * s.k + s.ek_size + 32 + 32) e ∙ sym (ap (λ (s : Parameters). s.dk_size) e)
+    | inr e ↦ ap (λ (s : Parameters). 384 * s.k + s.ek_size + 32 + 32) e ∙ sym (ap (λ (s : Parameters). s.dk_size) e)
   ]
 ]
 

@@ -2,6 +2,7 @@ mod Building
 mod Encoded
 mod Generated
 mod Meanings
+mod OwnForm
 mod Ranges
 mod Reduced
 mod Rounded

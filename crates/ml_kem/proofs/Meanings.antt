@@ -9,6 +9,7 @@ use Rattle.module_lattice.specs.Ring.{difference, product, sum}
 use Rattle.module_lattice.specs.Vectors.{dot_product, matrix_product, vector_sum}
 use Rattle.ml_kem.specs.Encapsulation.{chosen_key, decaps, encaps, key_and_coins}
 use Rattle.ml_kem.specs.Encryption.{compressed, decompressed, decrypt, encrypt, encrypted_with, rounded_u, rounded_v}
+use Rattle.ml_kem.specs.Expanded.{SecretKey, key_of_expanded, public_part, secret_part, z_part}
 use Rattle.ml_kem.specs.Keys.{decoded_vector, piece, rho_part, ring_vector, vector_part}
 use Rattle.ml_kem.specs.Matrix.{matrix, noise, noise_polynomial, transposed}
 use Rattle.ml_kem.specs.Parameters.{Parameters}
@@ -118,3 +119,13 @@ not-exhausted view NoMemory o answers some same = cc
 
 pub same-error : {X : Type 0} (d e : KemError) → (let r : Result X KemError = Err d in r) ≡ Err e → d ≡ e
 same-error d e same = cc
+
+-- what an expanded form is read as
+pub expanded-read : (set : Parameters) (k : ℕ) (bytes secret : List ℕ) (s_hat s : List (List ℕ)) (ek z : List ℕ) → set.k ≡ k → secret ≡ secret_part set bytes
+    → s_hat ≡ decoded_each 3329 12 k secret → s ≡ map inverse_transform s_hat → ek ≡ public_part set bytes → z ≡ z_part set bytes
+    → (let key : SecretKey = record { seed = None; s = s; s_hat = s_hat; ek = ek; z = z } in key) ≡ key_of_expanded set bytes
+unfolding decoded_vector ring_vector
+expanded-read set k bytes secret s_hat s ek z same is_secret is_hat is_s is_ek is_z =
+    let hat : s_hat ≡ decoded_each 3329 12 set.k (secret_part set bytes) = is_hat ∙ ap₂ (decoded_each 3329 12) (sym same) is_secret in
+    let ring : s ≡ map inverse_transform (decoded_each 3329 12 set.k (secret_part set bytes)) = is_s ∙ ap (map inverse_transform) hat in
+    rw (ring, hat, is_ek, is_z) refl

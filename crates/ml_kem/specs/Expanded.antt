@@ -1,5 +1,6 @@
 -- What a decapsulation key holds, and its expanded form (FIPS 203, sections 6.1 and 7.3).
-use Rattle.std.specs.Prelude.{◌≡◌, ◌≢◌, ℕ, ◌+◌, ◌^◌, ◌<◌, All, List, ◌++◌, Option, None, Some, length, take, drop, map}
+use Rattle.std.specs.Prelude.{◌≡◌, ◌≢◌, ◌&&◌, Bool, ℕ, ◌+◌, ◌^◌, ◌<◌, All, List, ◌++◌, Option, None, Some, length, take, drop, map, nat_eq}
+use Rattle.std.specs.Cmp.Lexicographic.{pointwise}
 use Rattle.std.specs.List.{flat_map}
 use Rattle.kem_hash.specs.Family.{Family}
 use Rattle.module_lattice.specs.Groups.{groups}
@@ -61,3 +62,8 @@ key_of_expanded set bytes = record {
   ek = public_part set bytes;
   z = z_part set bytes;
 }
+
+-- keys are equal where their transforms of s, their encapsulation keys and their z are: the seed counts
+-- for nothing
+abbrev pub same_key : SecretKey → SecretKey → Bool
+same_key a b = pointwise (pointwise nat_eq) a.s_hat b.s_hat && pointwise nat_eq a.ek b.ek && pointwise nat_eq a.z b.z

@@ -1,12 +1,13 @@
 //! Decapsulation keys, key generation and decapsulation (FIPS 203, sections 7.1 and 7.3).
 
-ghost use Rattle.std.specs.Prelude.{◌≡◌, ◌≢◌, Err, IfOk, IsSome, length};
+ghost use Rattle.std.specs.Prelude.{◌≡◌, ◌≢◌, ◌+◌, ◌^◌, ◌<◌, ◌++◌, All, Err, IfOk, IsSome, None, length};
 ghost use Rattle.std.specs.Option.{option_map};
+ghost use Rattle.rand_core.specs.Stream.{fill_bytes};
 ghost use Rattle.ml_kem.specs.Answers.{Answers};
 ghost use Rattle.module_lattice.specs.Ring.{product};
 ghost use Rattle.module_lattice.specs.Vectors.{matrix_product, vector_sum, RowsHaveLength};
 ghost use Rattle.ml_kem.specs.Encapsulation.{decaps};
-ghost use Rattle.ml_kem.specs.Expanded.{key_of_seed};
+ghost use Rattle.ml_kem.specs.Expanded.{SecretKey, key_of_seed};
 ghost use Rattle.ml_kem.specs.Keys.{key_of};
 ghost use Rattle.ml_kem.specs.Matrix.{noise};
 ghost use Rattle.ml_kem.specs.declared.error.KemError.TheVariants.{XofExhausted};
@@ -20,6 +21,7 @@ use crate::parameters::{B32, ParameterSet, Seed, SharedKey};
 use ctutils::{CtEqSlice, CtSelectArray};
 use kem_hash::KemHash;
 use module_lattice::{BaseField, NttVector, Vector};
+use rand_core::Rng;
 use std::alloc::{AllocError, Global};
 use std::marker::Model;
 
@@ -68,6 +70,25 @@ impl<P: ParameterSet, H: KemHash> DecapsulationKey<P, H> {
         })
     }
 
+    /// ML-KEM.KeyGen (algorithm 19) by the random source: d, then z, 32 bytes each, which are drawn by one
+    /// call of `fill_bytes` each, also before a refusal.
+    ///
+    /// `XofExhausted` comes exactly where an entry of the matrix has fewer than 256 numbers below 3329.
+    pub fn generate_from_rng<R: Rng>(
+        alloc: Global,
+        rng: &mut R,
+    ) -> Result<DecapsulationKey<P, H>, KemError>
+        ensures drawn { R.stream rng.new ≡ (fill_bytes 32 (fill_bytes 32 (R.stream rng.old)).1).1 }
+        ensures value { let d = fill_bytes 32 (R.stream rng.old) in let seed = d.0 ++ (fill_bytes 32 d.1).0 in
+            Answers (λ key. key) result (option_map (key_of_seed seed) (key_of P.set H.family seed)) }
+    {
+        let mut d = [0; 32];
+        rng.fill_bytes(&mut d);
+        let mut z = [0; 32];
+        rng.fill_bytes(&mut z);
+        DecapsulationKey::from_seed(alloc, &joined(&d, &z))
+    }
+
     /// ML-KEM.Decaps_internal (algorithm 18): the shared key of a ciphertext, or the key of its rejection
     /// where the message that it decrypts to encrypts to another ciphertext.
     ///
@@ -107,6 +128,93 @@ impl<P: ParameterSet, H: KemHash> DecapsulationKey<P, H> {
     {
         &self.ek
     }
+
+    /// An equal key. It is refused at want of memory alone.
+    pub fn try_clone(&self) -> Result<DecapsulationKey<P, H>, AllocError>
+        ensures { IfOk result (λ key. key ≡ self.now) }
+    {
+        let s = self.s.try_clone()?;
+        let s_hat = self.s_hat.try_clone()?;
+        let ek = self.ek.try_clone()?;
+        Ok(DecapsulationKey {
+            seed: self.seed,
+            s,
+            s_hat,
+            ek,
+            z: self.z,
+        })
+    }
+
+    /// The key without a seed of these parts.
+    pub(crate) fn from_transforms(
+        s: Vector<BaseField>,
+        s_hat: NttVector<BaseField>,
+        ek: EncapsulationKey<P, H>,
+        z: B32,
+    ) -> DecapsulationKey<P, H>
+        requires s_long { length s ≡ P.K }
+        requires s_hat_long { length s_hat ≡ P.K }
+        requires s_hat_narrow { All (λ f. All (λ x. x < 2 ^ 12) f) s_hat }
+        ensures { result ≡ record { seed = None; s = s; s_hat = s_hat; ek = ek; z = z } }
+    {
+        DecapsulationKey {
+            seed: None,
+            s,
+            s_hat,
+            ek,
+            z,
+        }
+    }
+
+    /// The transforms of s.
+    pub(crate) fn s_hat(&self) -> &NttVector<BaseField>
+        ensures value { result.now ≡ self.now.s_hat }
+        ensures long { length self.now.s_hat ≡ P.K }
+        ensures narrow { All (λ f. All (λ x. x < 2 ^ 12) f) self.now.s_hat }
+    {
+        &self.s_hat
+    }
+
+    /// The secret of rejections.
+    pub(crate) fn z(&self) -> &B32
+        ensures { result.now ≡ self.now.z }
+    {
+        &self.z
+    }
+}
+
+impl<P: ParameterSet, H: KemHash> PartialEq for DecapsulationKey<P, H> {
+    ghost use Rattle.std.specs.Cmp.{and_per, nat_eq_equiv, on_per, partial_equiv_from_equiv};
+    ghost use Rattle.std.specs.Cmp.Lexicographic.{lists_per};
+    ghost use Rattle.ml_kem.specs.Expanded.{SecretKey, same_key};
+
+    ghost eq = { same_key };
+
+    ghost laws = { and_per (and_per (on_per (λ (key : SecretKey). key.s_hat) (lists_per (lists_per (partial_equiv_from_equiv nat_eq_equiv))))
+        (on_per (λ (key : SecretKey). key.ek) (lists_per (partial_equiv_from_equiv nat_eq_equiv))))
+        (on_per (λ (key : SecretKey). key.z) (lists_per (partial_equiv_from_equiv nat_eq_equiv))) };
+
+    fn eq(&self, other: &Self) -> bool {
+        self.s_hat == other.s_hat && self.ek == other.ek && self.z == other.z
+    }
+}
+
+// 64 bytes of two halves.
+fn joined(first: &B32, second: &B32) -> Seed
+    ensures { result ≡ first.now ++ second.now }
+{
+    let mut out = [0; 64];
+    write_joined(first, second, &mut out);
+    out
+}
+
+fn write_joined(first: &[u8], second: &[u8], out: &mut [u8])
+    requires { length out.old ≡ length first.now + length second.now }
+    ensures { out.new ≡ first.now ++ second.now }
+{
+    let end = first.len();
+    out[..end].copy_from_slice(first);
+    out[end..].copy_from_slice(second);
 }
 
 // t: A·s and noise.

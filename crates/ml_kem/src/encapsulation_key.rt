@@ -51,12 +51,8 @@ impl<P: ParameterSet, H: KemHash> EncapsulationKey<P, H> {
         if !is_encapsulation_key::<P>(bytes) {
             return Err(KeyError::InvalidKey);
         }
-        let bytes = bytes.to_vec(alloc)?;
-        Ok(EncapsulationKey {
-            bytes,
-            set: PhantomData,
-            hash: PhantomData,
-        })
+        let key = EncapsulationKey::from_checked(alloc, bytes)?;
+        Ok(key)
     }
 
     /// The key of a vector of K polynomials and a seed.
@@ -70,6 +66,22 @@ impl<P: ParameterSet, H: KemHash> EncapsulationKey<P, H> {
     {
         let transforms = transform_vector(alloc, t)?;
         let bytes = key_bytes(alloc, P::EK_SIZE, &transforms, rho)?;
+        Ok(EncapsulationKey {
+            bytes,
+            set: PhantomData,
+            hash: PhantomData,
+        })
+    }
+
+    /// The key of bytes that pass the checks.
+    pub(crate) fn from_checked(
+        alloc: Global,
+        bytes: &[u8],
+    ) -> Result<EncapsulationKey<P, H>, AllocError>
+        requires { IsEncapsulationKey P.set bytes.now }
+        ensures { IfOk result (λ key. key ≡ bytes.now) }
+    {
+        let bytes = bytes.to_vec(alloc)?;
         Ok(EncapsulationKey {
             bytes,
             set: PhantomData,
@@ -208,8 +220,8 @@ fn write_key(transforms: &NttVector<BaseField>, rho: &B32, out: &mut [u8])
     out[end..].copy_from_slice(rho);
 }
 
-// The checks of FIPS 203, section 7.2.
-fn is_encapsulation_key<P: ParameterSet>(bytes: &[u8]) -> bool
+/// The checks of FIPS 203, section 7.2.
+pub(crate) fn is_encapsulation_key<P: ParameterSet>(bytes: &[u8]) -> bool
     ensures { IsTrue result ↔ IsEncapsulationKey P.set bytes.now }
 {
     bytes.len() == P::EK_SIZE && is_reduced(bytes, P::K)

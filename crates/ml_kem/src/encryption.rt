@@ -46,8 +46,8 @@ pub(crate) fn encrypt<P: ParameterSet, H: KemHash>(
     Ok(c)
 }
 
-// 32 bytes as an array.
-fn copied(bytes: &[u8]) -> B32
+/// 32 bytes as an array.
+pub(crate) fn copied(bytes: &[u8]) -> B32
     requires { length bytes.now ≡ 32 }
     ensures { result ≡ bytes.now }
 {

@@ -3,6 +3,7 @@
 
 mod decapsulation;
 mod encapsulation;
+mod expanded;
 mod families;
 mod sampling;
 mod zero_draw;
