@@ -10,5 +10,6 @@ pub mod opened_mails;
 pub mod rejected_secrets;
 pub mod sealed_contexts;
 pub mod sealed_records;
+pub mod sent_secrets;
 pub mod tagged_values;
 pub mod written_polynomials;
