@@ -1,4 +1,5 @@
 mod Building
+mod Domain
 mod Encoded
 mod Generated
 mod Meanings
@@ -9,3 +10,4 @@ mod Rounded
 mod Taken
 mod Totals
 mod Transforms
+pub mod Secrets

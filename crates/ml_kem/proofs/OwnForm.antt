@@ -9,18 +9,10 @@ use Rattle.kem_hash.specs.Family.{Family, IsLawful}
 use Rattle.module_lattice.specs.Groups.{decode12, decoded_each, groups}
 use Rattle.module_lattice.specs.Ring.{IsPolynomial}
 use Rattle.module_lattice.proofs.Units.{decode12-groups}
-use Rattle.ml_kem.specs.Expanded.{IsExpandedKey, SecretKey, expanded_form, hash_part, key_of_expanded, public_part, same_key, secret_part, z_part}
+use Rattle.ml_kem.specs.Expanded.{IsExpandedKey, SecretKey, expanded_form, key_of_expanded, public_part, same_key, secret_part, z_part}
 use Rattle.ml_kem.specs.Keys.{IsEncapsulationKey, decoded_vector}
 use Rattle.ml_kem.specs.Parameters.{IsSet, Parameters}
-use Rattle.ml_kem.proofs.Encoded.{dk_size-is, length-encoded}
-
--- polynomials in 384 bytes each
-length-secret : (v : List (List ℕ)) → All (IsPolynomial 3329) v → length (flat_map (groups 12) v) ≡ 384 * length v
-length-secret [] each = refl
-length-secret (f ∷ v) each =
-    let one = All-head (IsPolynomial 3329) f v each in
-    length-append (groups 12 f) (flat_map (groups 12) v)
-    ∙ ap₂ (λ (a b : ℕ). a + b) (length-encoded f one.size) (length-secret v (All-tail (IsPolynomial 3329) f v each)) ∙ omega arith
+use Rattle.ml_kem.proofs.Encoded.{dk_size-is, length-encoded, length-encoded_each}
 
 -- lists at their seam
 before : (a b : List ℕ) (n : ℕ) → length a ≡ n → take n (a ++ b) ≡ a
@@ -64,7 +56,7 @@ pub own-form : (set : Parameters) (family : Family) (key : SecretKey) → IsSet 
 own-form set family key is lawful long each public_is z_long =
     let a : List ℕ = flat_map (groups 12) key.s_hat in
     let h : List ℕ = family.h_of key.ek in
-    let first : length a ≡ 384 * set.k = length-secret key.s_hat each ∙ ap (λ (k : ℕ). 384 * k) long in
+    let first : length a ≡ 384 * set.k = length-encoded_each key.s_hat each ∙ ap (λ (k : ℕ). 384 * k) long in
     let third : length h ≡ 32 = (lawful.h_is key.ek).size in
     let public : public_part set (expanded_form family key) ≡ key.ek = second-part a key.ek h key.z (384 * set.k) set.ek_size first public_is.size in
     record {
@@ -88,7 +80,7 @@ own-equal set family key lawful long each public_is z_long =
     let a : List ℕ = flat_map (groups 12) key.s_hat in
     let h : List ℕ = family.h_of key.ek in
     let form : List ℕ = expanded_form family key in
-    let first : length a ≡ 384 * set.k = length-secret key.s_hat each ∙ ap (λ (k : ℕ). 384 * k) long in
+    let first : length a ≡ 384 * set.k = length-encoded_each key.s_hat each ∙ ap (λ (k : ℕ). 384 * k) long in
     let third : length h ≡ 32 = (lawful.h_is key.ek).size in
     let secret : secret_part set form ≡ a = ap (take (384 * set.k)) (whole a key.ek h key.z) ∙ before a (key.ek ++ (h ++ key.z)) (384 * set.k) first in
     let hat : decoded_each 3329 12 set.k (secret_part set form) ≡ key.s_hat =

@@ -1,13 +1,17 @@
 -- The numbers that a sampler takes.
-use Rattle.std.proofs.Common.{◌≡◌, true≢false, ℕ, zero, suc, ◌+◌, ◌*◌, ◌/◌, ◌%◌, ◌<◌, ◌≤◌, Bool, List, [], ◌∷◌, ◌++◌, All, Some, None, length, take, drop, get_or, filter, refl, sym, ap, ◌∙◌, arith, append_assoc, append-nil, length-append, take_all, take-add}
+use Rattle.std.proofs.Common.{◌≡◌, true≢false, ℕ, zero, suc, ◌+◌, ◌*◌, ◌/◌, ◌%◌, ◌<◌, ◌≤◌, Bool, true, inl, inr, Option, List, [], ◌∷◌, ◌++◌, All, Some, None, length, take, drop, get_or, filter, refl, sym, ap, ◌∙◌, arith, append_assoc, append-nil, length-append, take_all, take-add}
 use Rattle.std.specs.Prelude.{◌==◌, ◌≢◌, false, nat_lt, if◌then◌else◌}
 use Rattle.std.proofs.Math.ListN.{set}
 use Rattle.std.proofs.Math.Nat.{mod-lt}
-use Rattle.std.proofs.lemmas.Bool.{eq-eqb, le-ltb, lt-ltb}
+use Rattle.std.proofs.lemmas.Bool.{cases_lt, eq-eqb, le-ltb, lt-ltb, ltb-true}
 use Rattle.std.proofs.lemmas.List.{length-take, length-take-le, take-append-drop, take-append-le, take_more, take_more_set}
-use Rattle.std.proofs.lemmas.List.FromFn.{fill_by_all}
+use Rattle.std.proofs.lemmas.List.FromFn.{fill_by_all, length-map-range_with_len}
 use Rattle.ml_kem.proofs.Ranges.{All-values}
-use Rattle.std.proofs.lemmas.List.Elements.{filter-append}
+use Rattle.std.proofs.lemmas.List.Elements.{All-map, All-same, All-take, All-weaker, filter-append, filter_passes}
+use Rattle.kem_hash.specs.Family.{Family}
+use Rattle.module_lattice.specs.Ring.{IsPolynomial}
+use Rattle.std.specs.List.{range_with_len}
+use Rattle.ml_kem.specs.Matrix.{noise, noise_polynomial}
 use Rattle.ml_kem.specs.Samples.{accepted, candidates, cbd, cbd_coefficient, sample}
 
 -- bytes that three divides, and others behind them
@@ -147,3 +151,32 @@ cbd-filled eta bytes out long at = fill_by_all (cbd_coefficient eta bytes) out 2
 pub All-cbd : (eta : ℕ) (bytes : List ℕ) → All (λ x. x < 3329) (cbd eta bytes)
 unfolding cbd
 All-cbd eta bytes = All-values (cbd_coefficient eta bytes) 3329 0 256 (λ i. mod-lt _ (omega arith))
+
+pub IsPolynomial-cbd : (eta : ℕ) (bytes : List ℕ) → IsPolynomial 3329 (cbd eta bytes)
+unfolding cbd
+IsPolynomial-cbd eta bytes = record { size = length-map-range_with_len (cbd_coefficient eta bytes) 0 256; each = All-cbd eta bytes }
+
+pub IsPolynomial-noise : (family : Family) (eta : ℕ) (seed : List ℕ) (first count : ℕ) → All (IsPolynomial 3329) (noise family eta seed first count)
+unfolding noise
+IsPolynomial-noise family eta seed first count =
+    All-map (IsPolynomial 3329) (noise_polynomial family eta seed) (range_with_len first count) (λ k d within. IsPolynomial-cbd eta (family.prf_of eta seed (get_or (range_with_len first count) k d)))
+
+-- a sample is 256 numbers below q
+pub IsPolynomial-sample : (x f : List ℕ) → sample x ≡ Some f → IsPolynomial 3329 f
+unfolding sample
+IsPolynomial-sample x f is =
+    let p : ℕ → Bool = λ d. nat_lt d 3329 in
+    let cut : Bool → Option (List ℕ) = λ t. if t then None else Some (take 256 (accepted x)) in
+    elim (cases_lt (length (accepted x)) 256) [
+      | inl few ↦
+          let none : None ≡ Some f = sym (ap cut (lt-ltb (length (accepted x)) 256 few)) ∙ is in
+          absurd (cc)
+      | inr many ↦
+          let found : Some (take 256 (accepted x)) ≡ Some f = sym (ap cut (le-ltb (length (accepted x)) 256 many)) ∙ is in
+          let same : f ≡ take 256 (accepted x) = cc in
+          record {
+            size = ap length same ∙ length-take-le 256 (accepted x) many;
+            each = All-same (λ d. d < 3329) f (take 256 (accepted x)) same (All-take (λ d. d < 3329) 256 (accepted x)
+                (All-weaker (λ d. p d ≡ true) (λ d. d < 3329) (λ d passes. ltb-true d 3329 passes) (accepted x) (filter_passes p (candidates x))));
+          }
+    ]

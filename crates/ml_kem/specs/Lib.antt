@@ -8,6 +8,8 @@ pub mod Samples
 pub mod Matrix
 -- key generation, and the parts of keys
 pub mod Keys
+-- what a key keeps beside its bytes
+pub mod Kept
 -- encryption and decryption
 pub mod Encryption
 -- how a call answers a meaning that is a value or none

@@ -1,11 +1,13 @@
 //! Decapsulation keys, key generation and decapsulation (FIPS 203, sections 7.1 and 7.3).
 
-ghost use Rattle.std.specs.Prelude.{◌≡◌, ◌≢◌, ◌+◌, ◌^◌, ◌<◌, ◌++◌, All, Err, IfOk, IsSome, None, length};
+ghost use Rattle.std.specs.Prelude.{◌≡◌, ◌≢◌, ◌+◌, ◌^◌, ◌<◌, ◌++◌, All, Err, IfOk, IfSome, IsSome, None, Some, length, map};
 ghost use Rattle.std.specs.Option.{option_map};
 ghost use Rattle.rand_core.specs.Stream.{fill_bytes};
 ghost use Rattle.ml_kem.specs.Answers.{Answers};
-ghost use Rattle.module_lattice.specs.Ring.{product};
+ghost use Rattle.module_lattice.specs.Pairs.{pair_products};
+ghost use Rattle.module_lattice.specs.Ring.{IsPolynomial};
 ghost use Rattle.module_lattice.specs.Vectors.{matrix_product, vector_sum, RowsHaveLength};
+ghost use Rattle.lattice_transform.specs.Transform.{inverse_transform, transform};
 ghost use Rattle.ml_kem.specs.Encapsulation.{decaps};
 ghost use Rattle.ml_kem.specs.Expanded.{SecretKey, key_of_seed};
 ghost use Rattle.ml_kem.specs.Keys.{key_of};
@@ -14,13 +16,13 @@ ghost use Rattle.ml_kem.specs.declared.error.KemError.TheVariants.{XofExhausted}
 
 use crate::ciphertext::Ciphertext;
 use crate::encapsulation_key::{EncapsulationKey, halves};
-use crate::encryption::{decrypt, encrypt, transform_vector};
+use crate::encryption::decrypt;
 use crate::error::KemError;
-use crate::matrix::{multiply_matrix, noise, sample_matrix};
+use crate::matrix::{noise_transforms, sample_matrix};
 use crate::parameters::{B32, ParameterSet, Seed, SharedKey};
 use ctutils::{CtEqSlice, CtSelectArray};
 use kem_hash::KemHash;
-use module_lattice::{BaseField, NttVector, Vector};
+use module_lattice::{BaseField, NttMatrix, NttVector};
 use rand_core::Rng;
 use std::alloc::{AllocError, Global};
 use std::marker::Model;
@@ -29,20 +31,23 @@ use std::marker::Model;
 #[derive(Drop)]
 pub struct DecapsulationKey<P: ParameterSet, H: KemHash> {
     seed: Option<Seed>,
-    s: Vector<BaseField>,
     s_hat: NttVector<BaseField>,
     ek: EncapsulationKey<P, H>,
     z: B32,
 }
 
 impl<P: ParameterSet, H: KemHash> Model for DecapsulationKey<P, H> {
+    ghost use Rattle.std.specs.Prelude.{All, map};
+    ghost use Rattle.module_lattice.specs.Ring.{IsPolynomial};
+    ghost use Rattle.lattice_transform.specs.Transform.{inverse_transform};
     ghost use Rattle.ml_kem.specs.Expanded.{IsSecretKey, SecretKey};
 
     ghost Value = { SecretKey };
 
-    ghost view = { λ key. record { seed = key.seed; s = key.s; s_hat = key.s_hat; ek = key.ek; z = key.z } };
+    ghost view = { λ key. record { seed = key.seed; s = map inverse_transform key.s_hat; s_hat = key.s_hat; ek = key.ek; z = key.z } };
 
-    ghost invariant = { λ key. IsSecretKey P.set H.family (record { seed = key.seed; s = key.s; s_hat = key.s_hat; ek = key.ek; z = key.z }) };
+    ghost invariant = { λ key. IsSecretKey P.set H.family (record { seed = key.seed; s = map inverse_transform key.s_hat; s_hat = key.s_hat; ek = key.ek; z = key.z })
+        × All (IsPolynomial 3329) key.s_hat };
 }
 
 impl<P: ParameterSet, H: KemHash> DecapsulationKey<P, H> {
@@ -56,14 +61,12 @@ impl<P: ParameterSet, H: KemHash> DecapsulationKey<P, H> {
         let (d, z) = halves(seed);
         let made = H::g(&d, &[P::K as u8]);
         let (rho, sigma) = halves(&made);
-        let rows = sample_matrix::<H>(alloc, P::K, &rho)?;
-        let s = noise::<H>(alloc, P::ETA1, &sigma, 0, P::K)?;
-        let t = public_vector::<P, H>(alloc, &rows, &s, &sigma)?;
-        let ek = EncapsulationKey::from_parts(alloc, &t, &rho)?;
-        let s_hat = transform_vector(alloc, &s)?;
+        let a = sample_matrix::<H>(alloc, P::K, &rho)?;
+        let s_hat = noise_transforms::<H>(alloc, P::ETA1, &sigma, 0, P::K)?;
+        let t_hat = public_vector::<P, H>(alloc, &a, &s_hat, &sigma)?;
+        let ek = EncapsulationKey::from_parts(alloc, a, &t_hat, &rho)?;
         Ok(DecapsulationKey {
             seed: Some(*seed),
-            s,
             s_hat,
             ek,
             z,
@@ -99,18 +102,19 @@ impl<P: ParameterSet, H: KemHash> DecapsulationKey<P, H> {
         ensures from_seed { IsSome self.now.seed → result ≢ Err XofExhausted }
     {
         let alloc = self.ek.allocator();
-        let m = decrypt::<P>(alloc, &self.s, c.as_slice())?;
+        let m = decrypt::<P>(alloc, &self.s_hat, c.as_slice())?;
         let made = H::g(&m, &H::h(self.ek.as_slice()));
         let (key, r) = halves(&made);
-        let again = encrypt::<P, H>(alloc, self.ek.as_slice(), &m, &r)?;
+        let again = self.ek.encrypted(&m, &r)?;
         let rejected = H::j(&self.z, c.as_slice());
         let is_same = u8::ct_eq_slice(again.as_slice(), c.as_slice());
         Ok(u8::ct_select_array(&rejected, &key, is_same))
     }
 
-    /// The seed, or none exactly for a key from an expanded form.
+    /// The seed, or none exactly for a key from an expanded form. The key is the one that the seed gives.
     pub fn to_seed(&self) -> Option<Seed>
-        ensures { result ≡ self.now.seed }
+        ensures value { result ≡ self.now.seed }
+        ensures made { IfSome result (λ seed. option_map (key_of_seed seed) (key_of P.set H.family seed) ≡ Some self.now) }
     {
         self.seed
     }
@@ -133,12 +137,10 @@ impl<P: ParameterSet, H: KemHash> DecapsulationKey<P, H> {
     pub fn try_clone(&self) -> Result<DecapsulationKey<P, H>, AllocError>
         ensures { IfOk result (λ key. key ≡ self.now) }
     {
-        let s = self.s.try_clone()?;
         let s_hat = self.s_hat.try_clone()?;
         let ek = self.ek.try_clone()?;
         Ok(DecapsulationKey {
             seed: self.seed,
-            s,
             s_hat,
             ek,
             z: self.z,
@@ -147,19 +149,17 @@ impl<P: ParameterSet, H: KemHash> DecapsulationKey<P, H> {
 
     /// The key without a seed of these parts.
     pub(crate) fn from_transforms(
-        s: Vector<BaseField>,
         s_hat: NttVector<BaseField>,
         ek: EncapsulationKey<P, H>,
         z: B32,
     ) -> DecapsulationKey<P, H>
-        requires s_long { length s ≡ P.K }
-        requires s_hat_long { length s_hat ≡ P.K }
-        requires s_hat_narrow { All (λ f. All (λ x. x < 2 ^ 12) f) s_hat }
-        ensures { result ≡ record { seed = None; s = s; s_hat = s_hat; ek = ek; z = z } }
+        requires long { length s_hat ≡ P.K }
+        requires narrow { All (λ f. All (λ x. x < 2 ^ 12) f) s_hat }
+        requires polynomials { All (IsPolynomial 3329) s_hat }
+        ensures { result ≡ record { seed = None; s = map inverse_transform s_hat; s_hat = s_hat; ek = ek; z = z } }
     {
         DecapsulationKey {
             seed: None,
-            s,
             s_hat,
             ek,
             z,
@@ -217,22 +217,23 @@ fn write_joined(first: &[u8], second: &[u8], out: &mut [u8])
     out[end..].copy_from_slice(second);
 }
 
-// t: A·s and noise.
+// The transforms of t: A·s and noise.
 fn public_vector<P: ParameterSet, H: KemHash>(
     alloc: Global,
-    rows: &Vec<Vector<BaseField>>,
-    s: &Vector<BaseField>,
+    a: &NttMatrix<BaseField>,
+    s_hat: &NttVector<BaseField>,
     sigma: &B32,
-) -> Result<Vector<BaseField>, AllocError>
-    requires count { length rows.now.items ≡ P.K }
-    requires rows { RowsHaveLength P.K rows.now.items }
-    requires long { length s.now ≡ P.K }
-    ensures value { IfOk result (λ t. t ≡ vector_sum 3329 (matrix_product 3329 (product 3329) rows.now.items s.now)
-        (noise H.family P.ETA1 sigma.now P.K P.K)) }
-    ensures long { IfOk result (λ t. length t ≡ P.K) }
+) -> Result<NttVector<BaseField>, AllocError>
+    requires count { length a.now ≡ P.K }
+    requires rows { RowsHaveLength P.K a.now }
+    requires long { length s_hat.now ≡ P.K }
+    ensures value { IfOk result (λ t_hat. t_hat ≡ vector_sum 3329 (matrix_product 3329 pair_products a.now s_hat.now)
+        (map transform (noise H.family P.ETA1 sigma.now P.K P.K))) }
+    ensures long { IfOk result (λ t_hat. length t_hat ≡ P.K) }
+    ensures polynomials { IfOk result (λ t_hat. All (IsPolynomial 3329) t_hat) }
 {
-    let multiplied = multiply_matrix(alloc, rows, s)?;
-    let e = noise::<H>(alloc, P::ETA1, sigma, P::K, P::K)?;
-    let t = multiplied.add(&e)?;
-    Ok(t)
+    let multiplied = a.mul(s_hat)?;
+    let e_hat = noise_transforms::<H>(alloc, P::ETA1, sigma, P::K, P::K)?;
+    let t_hat = multiplied.add(&e_hat)?;
+    Ok(t_hat)
 }

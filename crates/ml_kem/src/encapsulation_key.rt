@@ -4,40 +4,47 @@ ghost use Rattle.std.specs.Prelude.{◌≡◌, ◌≢◌, ◌↔◌, ◌+◌, �
 ghost use Rattle.std.specs.List.{flat_map};
 ghost use Rattle.rand_core.specs.Stream.{fill_bytes};
 ghost use Rattle.module_lattice.specs.Groups.{groups, ungroup};
+ghost use Rattle.module_lattice.specs.Ring.{IsPolynomial};
 ghost use Rattle.ml_kem.specs.Answers.{Answers};
 ghost use Rattle.ml_kem.specs.Encapsulation.{encaps};
-ghost use Rattle.ml_kem.specs.Keys.{IsEncapsulationKey, IsReduced, encoded_vector};
+ghost use Rattle.ml_kem.specs.Encryption.{encrypt};
+ghost use Rattle.ml_kem.specs.Keys.{IsEncapsulationKey, IsReduced};
+ghost use Rattle.ml_kem.specs.Kept.{IsMatrix};
 ghost use Rattle.ml_kem.specs.declared.error.KeyError.TheVariants.{InvalidKey, NoMemory};
 
 use crate::ciphertext::Ciphertext;
-use crate::encryption::{NUMBER_BITS, encrypt, transform_vector};
+use crate::encryption::{NUMBER_BITS, encrypt, encrypt_under};
 use crate::error::{KemError, KeyError};
 use crate::parameters::{B32, DEGREE, POLYNOMIAL_BYTES, ParameterSet, SharedKey};
 use ctutils::CtEqSlice;
 use kem_hash::KemHash;
-use module_lattice::{BaseField, Encode, NttVector, Vector, byte_decode, byte_encode};
+use module_lattice::{BaseField, Encode, NttMatrix, NttVector, byte_decode, byte_encode};
 use rand_core::Rng;
 use std::alloc::{AllocError, Global};
 use std::marker::{Model, PhantomData};
 
-/// An encapsulation key: EK_SIZE bytes, which contracts see.
+/// An encapsulation key: EK_SIZE bytes, which contracts see. One that was made of a seed keeps the
+/// matrix, which then isn't sampled again.
 #[derive(Drop)]
 #[derive_where(Debug)]
 pub struct EncapsulationKey<P: ParameterSet, H: KemHash> {
     bytes: Vec<u8>,
+    matrix: Option<NttMatrix<BaseField>>,
     set: PhantomData<P>,
     hash: PhantomData<H>,
 }
 
 impl<P: ParameterSet, H: KemHash> Model for EncapsulationKey<P, H> {
-    ghost use Rattle.std.specs.Prelude.{ℕ, List};
-    ghost use Rattle.ml_kem.specs.Keys.{IsEncapsulationKey};
+    ghost use Rattle.std.specs.Prelude.{ℕ, List, IfSome};
+    ghost use Rattle.ml_kem.specs.Keys.{IsEncapsulationKey, rho_part};
+    ghost use Rattle.ml_kem.specs.Kept.{IsMatrix};
 
     ghost Value = { List ℕ };
 
     ghost view = { λ key. key.bytes.items };
 
-    ghost invariant = { λ key. IsEncapsulationKey P.set key.bytes.items };
+    ghost invariant = { λ key. IsEncapsulationKey P.set key.bytes.items
+        × IfSome key.matrix (λ a. IsMatrix H.family P.K (rho_part P.set key.bytes.items) a) };
 }
 
 impl<P: ParameterSet, H: KemHash> EncapsulationKey<P, H> {
@@ -55,19 +62,22 @@ impl<P: ParameterSet, H: KemHash> EncapsulationKey<P, H> {
         Ok(key)
     }
 
-    /// The key of a vector of K polynomials and a seed.
+    /// The key of the transforms of a vector of K polynomials and a seed, with the seed's matrix.
     pub(crate) fn from_parts(
         alloc: Global,
-        t: &Vector<BaseField>,
+        matrix: NttMatrix<BaseField>,
+        t_hat: &NttVector<BaseField>,
         rho: &B32,
     ) -> Result<EncapsulationKey<P, H>, AllocError>
-        requires { length t.now ≡ P.K }
-        ensures { IfOk result (λ key. key ≡ encoded_vector t.now ++ rho.now) }
+        requires matrix { IsMatrix H.family P.K rho.now matrix }
+        requires long { length t_hat.now ≡ P.K }
+        requires polynomials { All (IsPolynomial 3329) t_hat.now }
+        ensures { IfOk result (λ key. key ≡ flat_map (groups 12) t_hat.now ++ rho.now) }
     {
-        let transforms = transform_vector(alloc, t)?;
-        let bytes = key_bytes(alloc, P::EK_SIZE, &transforms, rho)?;
+        let bytes = key_bytes(alloc, P::EK_SIZE, t_hat, rho)?;
         Ok(EncapsulationKey {
             bytes,
+            matrix: Some(matrix),
             set: PhantomData,
             hash: PhantomData,
         })
@@ -84,6 +94,7 @@ impl<P: ParameterSet, H: KemHash> EncapsulationKey<P, H> {
         let bytes = bytes.to_vec(alloc)?;
         Ok(EncapsulationKey {
             bytes,
+            matrix: None,
             set: PhantomData,
             hash: PhantomData,
         })
@@ -100,7 +111,8 @@ impl<P: ParameterSet, H: KemHash> EncapsulationKey<P, H> {
     /// Writes the bytes into `out`, which has EK_SIZE bytes. It takes no memory.
     pub fn write_bytes(&self, out: &mut [u8])
         requires { length out.old ≡ P.EK_SIZE }
-        ensures { out.new ≡ self.now }
+        ensures value { out.new ≡ self.now }
+        ensures is { IsEncapsulationKey P.set self.now }
     {
         out.copy_from_slice(self.bytes.as_slice());
     }
@@ -120,26 +132,30 @@ impl<P: ParameterSet, H: KemHash> EncapsulationKey<P, H> {
 
     /// A key of the same bytes. It is refused at want of memory alone.
     pub fn try_clone(&self) -> Result<EncapsulationKey<P, H>, AllocError>
-        ensures { IfOk result (λ key. key ≡ self.now) }
+        ensures value { IfOk result (λ key. key ≡ self.now) }
+        ensures is { IfOk result (λ _. IsEncapsulationKey P.set self.now) }
     {
         let bytes = self.bytes.clone()?;
+        let matrix = copied_matrix(&self.matrix)?;
         Ok(EncapsulationKey {
             bytes,
+            matrix,
             set: PhantomData,
             hash: PhantomData,
         })
     }
 
-    /// ML-KEM.Encaps_internal (algorithm 17): the ciphertext and the shared key that 32 bytes give.
+    /// ML-KEM.Encaps_internal (algorithm 17): the ciphertext, of CT_SIZE bytes, and the shared key that 32
+    /// bytes give.
     ///
     /// `XofExhausted` comes exactly where an entry of the matrix has fewer than 256 numbers below 3329.
     pub fn encapsulate_deterministic(&self, m: &B32) -> Result<(Ciphertext<P>, SharedKey), KemError>
-        ensures { Answers (λ made. (made.0, made.1)) result (encaps P.set H.family self.now m.now) }
+        ensures value { Answers (λ made. (made.0, made.1)) result (encaps P.set H.family self.now m.now) }
+        ensures size { IfOk result (λ made. length made.0 ≡ P.CT_SIZE) }
     {
-        let alloc = *self.bytes.allocator();
         let made = H::g(m, &H::h(self.bytes.as_slice()));
         let (key, r) = halves(&made);
-        let c = encrypt::<P, H>(alloc, self.bytes.as_slice(), m, &r)?;
+        let c = self.encrypted(m, &r)?;
         Ok((Ciphertext::from_vec(c), key))
     }
 
@@ -154,10 +170,26 @@ impl<P: ParameterSet, H: KemHash> EncapsulationKey<P, H> {
         ensures drawn { R.stream rng.new ≡ (fill_bytes 32 (R.stream rng.old)).1 }
         ensures value { Answers (λ made. (made.0, made.1)) result
             (encaps P.set H.family self.now (fill_bytes 32 (R.stream rng.old)).0) }
+        ensures size { IfOk result (λ made. length made.0 ≡ P.CT_SIZE) }
     {
         let mut m = [0; 32];
         rng.fill_bytes(&mut m);
         self.encapsulate_deterministic(&m)
+    }
+
+    /// The ciphertext of a message by the coins `r`, under the matrix that is kept, or else is sampled.
+    pub(crate) fn encrypted(&self, m: &B32, r: &B32) -> Result<Vec<u8>, KemError>
+        ensures value { Answers (λ c. c.items) result (encrypt P.set H.family self.now m.now r.now) }
+        ensures size { IfOk result (λ c. length c.items ≡ P.CT_SIZE) }
+    {
+        let alloc = self.allocator();
+        match &self.matrix {
+            Some(a) => {
+                let c = encrypt_under::<P, H>(alloc, a, self.bytes.as_slice(), m, r)?;
+                Ok(c)
+            }
+            None => encrypt::<P, H>(alloc, self.bytes.as_slice(), m, r),
+        }
     }
 }
 
@@ -180,6 +212,21 @@ impl<P: ParameterSet, H: KemHash> Eq for EncapsulationKey<P, H> {
     ghost use Rattle.std.specs.Cmp.Lexicographic.{lists_equiv};
 
     ghost laws = { lists_equiv nat_eq_equiv };
+}
+
+// A copy of a matrix, if there is one.
+fn copied_matrix(
+    matrix: &Option<NttMatrix<BaseField>>,
+) -> Result<Option<NttMatrix<BaseField>>, AllocError>
+    ensures { IfOk result (λ copy. copy ≡ matrix.now) }
+{
+    match matrix {
+        Some(a) => {
+            let copy = a.try_clone()?;
+            Ok(Some(copy))
+        }
+        None => Ok(None),
+    }
 }
 
 /// The two halves of 64 bytes.

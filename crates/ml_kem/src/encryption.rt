@@ -1,24 +1,25 @@
 //! The encryption that ML-KEM stands on (FIPS 203, sections 5.2 and 5.3).
 
-ghost use Rattle.std.specs.Prelude.{◌≡◌, ◌*◌, ◌^◌, ◌<◌, ◌≤◌, ◌++◌, All, IfOk, length, map};
+ghost use Rattle.std.specs.Prelude.{◌≡◌, ◌+◌, ◌*◌, ◌<◌, ◌≤◌, ◌++◌, All, IfOk, Some, length, map};
 ghost use Rattle.std.specs.List.{flat_map, range_with_len};
-ghost use Rattle.module_lattice.specs.Ring.{product, sum};
-ghost use Rattle.module_lattice.specs.Vectors.{dot_product, matrix_product, vector_sum, RowsHaveLength};
+ghost use Rattle.module_lattice.specs.Pairs.{pair_products};
+ghost use Rattle.module_lattice.specs.Ring.{IsPolynomial, sum};
+ghost use Rattle.module_lattice.specs.Vectors.{dot_product, RowsHaveLength};
 ghost use Rattle.ml_kem.specs.Answers.{Answers};
 ghost use Rattle.ml_kem.specs.Encryption.{compressed, decompressed, decrypt, encrypt, encrypted_with};
-ghost use Rattle.ml_kem.specs.Keys.{piece, ring_vector};
-ghost use Rattle.ml_kem.specs.Matrix.{noise, noise_polynomial, transposed};
+ghost use Rattle.ml_kem.specs.Kept.{IsMatrix};
+ghost use Rattle.ml_kem.specs.Keys.{piece, rho_part};
+ghost use Rattle.ml_kem.specs.Matrix.{column, noise_polynomial};
 ghost use Rattle.lattice_transform.specs.Transform.{inverse_transform, transform};
 
 use crate::error::KemError;
-use crate::matrix::{multiply_transposed, noise, sample_matrix};
+use crate::matrix::{column_dot, noise_transforms, sample_matrix};
 use crate::parameters::{B32, POLYNOMIAL_BYTES, ParameterSet};
-use crate::ring::dot;
 use crate::rounding::{read_decompressed, write_compressed};
 use crate::sampling::noise_polynomial;
 use kem_hash::KemHash;
 use lattice_transform::{ntt, ntt_inverse};
-use module_lattice::{BaseField, Encode, NttVector, Polynomial, Vector};
+use module_lattice::{BaseField, Encode, NttMatrix, NttVector, Polynomial, Vector};
 use std::alloc::{AllocError, Global};
 
 // The bytes that one bit of each coefficient takes.
@@ -27,7 +28,8 @@ const BYTES_PER_BIT: usize = 32;
 // The bits of a number below q.
 pub(crate) const NUMBER_BITS: usize = 12;
 
-/// The ciphertext of a message under an encapsulation key, by the coins `r`: CT_SIZE bytes.
+/// The ciphertext of a message under an encapsulation key, by the coins `r`: CT_SIZE bytes. The matrix is
+/// sampled.
 pub(crate) fn encrypt<P: ParameterSet, H: KemHash>(
     alloc: Global,
     ek: &[u8],
@@ -38,11 +40,27 @@ pub(crate) fn encrypt<P: ParameterSet, H: KemHash>(
     ensures value { Answers (λ c. c.items) result (encrypt P.set H.family ek.now m.now r.now) }
     ensures size { IfOk result (λ c. length c.items ≡ P.CT_SIZE) }
 {
-    let size = POLYNOMIAL_BYTES * P::K;
-    let rho = copied(&ek[size..]);
-    let rows = sample_matrix::<H>(alloc, P::K, &rho)?;
-    let t = read_vector::<P>(alloc, &ek[..size])?;
-    let c = encrypt_with::<P, H>(alloc, &rows, &t, m, r)?;
+    let rho = copied(&ek[POLYNOMIAL_BYTES * P::K..]);
+    let a = sample_matrix::<H>(alloc, P::K, &rho)?;
+    let c = encrypt_under::<P, H>(alloc, &a, ek, m, r)?;
+    Ok(c)
+}
+
+/// The same under the transforms of the matrix of the key's seed.
+pub(crate) fn encrypt_under<P: ParameterSet, H: KemHash>(
+    alloc: Global,
+    a: &NttMatrix<BaseField>,
+    ek: &[u8],
+    m: &B32,
+    r: &B32,
+) -> Result<Vec<u8>, AllocError>
+    requires size { length ek.now ≡ P.EK_SIZE }
+    requires matrix { IsMatrix H.family P.K (rho_part P.set ek.now) a.now }
+    ensures value { IfOk result (λ c. encrypt P.set H.family ek.now m.now r.now ≡ Some c.items) }
+    ensures size { IfOk result (λ c. length c.items ≡ P.CT_SIZE) }
+{
+    let t_hat = NttVector::decode(alloc, NUMBER_BITS, P::K, &ek[..POLYNOMIAL_BYTES * P::K])?;
+    let c = encrypt_with::<P, H>(alloc, a, &t_hat, m, r)?;
     Ok(c)
 }
 
@@ -56,67 +74,26 @@ pub(crate) fn copied(bytes: &[u8]) -> B32
     out
 }
 
-// The polynomials of a vector part.
-fn read_vector<P: ParameterSet>(
-    alloc: Global,
-    bytes: &[u8],
-) -> Result<Vector<BaseField>, AllocError>
-    requires { length bytes.now ≡ 384 * P.K }
-    ensures value { IfOk result (λ t. t ≡ ring_vector P.set bytes.now) }
-    ensures long { IfOk result (λ t. length t ≡ P.K) }
-{
-    let transforms = NttVector::decode(alloc, NUMBER_BITS, P::K, bytes)?;
-    let t = inverse_vector(alloc, &transforms)?;
-    Ok(t)
-}
-
-/// Each polynomial of a vector of transforms.
-pub(crate) fn inverse_vector(
-    alloc: Global,
-    v: &NttVector<BaseField>,
-) -> Result<Vector<BaseField>, AllocError>
-    ensures value { IfOk result (λ out. out ≡ map inverse_transform v.now) }
-    ensures long { IfOk result (λ out. length out ≡ length v.now) }
-{
-    let mut items = Vec::new(alloc);
-    for i in 0..v.len() {
-        items.push(ntt_inverse(v.item(i)))?;
-    }
-    Ok(Vector::new(items))
-}
-
-/// The transform of each polynomial of a vector.
-pub(crate) fn transform_vector(
-    alloc: Global,
-    v: &Vector<BaseField>,
-) -> Result<NttVector<BaseField>, AllocError>
-    ensures value { IfOk result (λ out. out ≡ map transform v.now) }
-    ensures long { IfOk result (λ out. length out ≡ length v.now) }
-    ensures narrow { IfOk result (λ out. All (λ f. All (λ x. x < 2 ^ 12) f) out) }
-{
-    let mut items = Vec::new(alloc);
-    for i in 0..v.len() {
-        items.push(ntt(v.item(i)))?;
-    }
-    Ok(NttVector::new(items))
-}
-
+// The ciphertext under the transforms of A and t.
 fn encrypt_with<P: ParameterSet, H: KemHash>(
     alloc: Global,
-    rows: &Vec<Vector<BaseField>>,
-    t: &Vector<BaseField>,
+    a: &NttMatrix<BaseField>,
+    t_hat: &NttVector<BaseField>,
     m: &B32,
     r: &B32,
 ) -> Result<Vec<u8>, AllocError>
-    requires count { length rows.now.items ≡ P.K }
-    requires rows { RowsHaveLength P.K rows.now.items }
-    requires long { length t.now ≡ P.K }
-    ensures value { IfOk result (λ c. c.items ≡ encrypted_with P.set H.family t.now m.now r.now rows.now.items) }
+    requires count { length a.now ≡ P.K }
+    requires rows { RowsHaveLength P.K a.now }
+    requires polynomials { All (All (IsPolynomial 3329)) a.now }
+    requires t_long { length t_hat.now ≡ P.K }
+    requires t_polynomials { All (IsPolynomial 3329) t_hat.now }
+    ensures value { IfOk result (λ c. c.items
+        ≡ encrypted_with P.set H.family (map inverse_transform t_hat.now) m.now r.now (map (map inverse_transform) a.now)) }
     ensures size { IfOk result (λ c. length c.items ≡ P.CT_SIZE) }
 {
-    let y = noise::<H>(alloc, P::ETA1, r, 0, P::K)?;
-    let u = encrypted_u::<P, H>(alloc, rows, &y, r)?;
-    let v = encrypted_v::<P, H>(t, &y, m, r);
+    let y_hat = noise_transforms::<H>(alloc, P::ETA1, r, 0, P::K)?;
+    let u = encrypted_u::<P, H>(alloc, a, &y_hat, r)?;
+    let v = encrypted_v::<P, H>(t_hat, &y_hat, m, r);
     let c = ciphertext_bytes::<P>(alloc, &u, &v)?;
     Ok(c)
 }
@@ -139,36 +116,40 @@ fn ciphertext_bytes<P: ParameterSet>(
 // A^T·y + e1.
 fn encrypted_u<P: ParameterSet, H: KemHash>(
     alloc: Global,
-    rows: &Vec<Vector<BaseField>>,
-    y: &Vector<BaseField>,
+    a: &NttMatrix<BaseField>,
+    y_hat: &NttVector<BaseField>,
     r: &B32,
 ) -> Result<Vector<BaseField>, AllocError>
-    requires count { length rows.now.items ≡ P.K }
-    requires rows { RowsHaveLength P.K rows.now.items }
-    requires long { length y.now ≡ P.K }
-    ensures value { IfOk result (λ u. u ≡ vector_sum 3329 (matrix_product 3329 (product 3329) (transposed P.K rows.now.items) y.now)
-        (noise H.family P.ETA2 r.now P.K P.K)) }
+    requires count { length a.now ≡ P.K }
+    requires rows { RowsHaveLength P.K a.now }
+    requires long { length y_hat.now ≡ P.K }
+    ensures value { IfOk result (λ u. u
+        ≡ map (λ i. sum 3329 (inverse_transform (dot_product 3329 pair_products (column a.now i) y_hat.now)) (noise_polynomial H.family P.ETA2 r.now (P.K + i)))
+        (range_with_len 0 P.K)) }
     ensures long { IfOk result (λ u. length u ≡ P.K) }
 {
-    let masked = multiply_transposed(alloc, rows, P::K, y)?;
-    let e1 = noise::<H>(alloc, P::ETA2, r, P::K, P::K)?;
-    masked.add(&e1)
+    let mut items = Vec::new(alloc);
+    for i in 0..P::K {
+        let e1 = noise_polynomial::<H>(P::ETA2, r, (P::K + i) as u8);
+        items.push(&ntt_inverse(&column_dot(a, i, y_hat)) + &e1)?;
+    }
+    Ok(Vector::new(items))
 }
 
 // t·y + e2 + the message.
 fn encrypted_v<P: ParameterSet, H: KemHash>(
-    t: &Vector<BaseField>,
-    y: &Vector<BaseField>,
+    t_hat: &NttVector<BaseField>,
+    y_hat: &NttVector<BaseField>,
     m: &B32,
     r: &B32,
 ) -> Polynomial<BaseField>
-    requires t_long { length t.now ≡ P.K }
-    requires y_long { length y.now ≡ P.K }
-    ensures { result ≡ sum 3329 (sum 3329 (dot_product 3329 (product 3329) t.now y.now)
+    requires t_long { length t_hat.now ≡ P.K }
+    requires y_long { length y_hat.now ≡ P.K }
+    ensures { result ≡ sum 3329 (sum 3329 (inverse_transform (dot_product 3329 pair_products t_hat.now y_hat.now))
         (noise_polynomial H.family P.ETA2 r.now (2 * P.K))) (decompressed 1 m.now) }
 {
     let e2 = noise_polynomial::<H>(P::ETA2, r, (2 * P::K) as u8);
-    let noisy = &dot(t, y) + &e2;
+    let noisy = &ntt_inverse(&t_hat.dot(y_hat)) + &e2;
     &noisy + &read_decompressed(1, m)
 }
 
@@ -200,42 +181,44 @@ fn write_compressed_vector(d: usize, v: &Vector<BaseField>, out: &mut [u8])
     }
 }
 
-/// The message of a ciphertext under the vector `s`: 32 bytes.
+/// The message of a ciphertext under the transforms of s: 32 bytes.
 pub(crate) fn decrypt<P: ParameterSet>(
     alloc: Global,
-    s: &Vector<BaseField>,
+    s_hat: &NttVector<BaseField>,
     c: &[u8],
 ) -> Result<B32, AllocError>
-    requires long { length s.now ≡ P.K }
+    requires long { length s_hat.now ≡ P.K }
+    requires polynomials { All (IsPolynomial 3329) s_hat.now }
     requires size { length c.now ≡ P.CT_SIZE }
-    ensures { IfOk result (λ m. m ≡ decrypt P.set s.now c.now) }
+    ensures { IfOk result (λ m. m ≡ decrypt P.set (map inverse_transform s_hat.now) c.now) }
 {
     let end = BYTES_PER_BIT * P::DU * P::K;
-    let u = read_u(alloc, P::DU, P::K, c)?;
+    let u_hat = read_u(alloc, P::DU, P::K, c)?;
     let v = read_decompressed(P::DV, &c[end..]);
+    let masked = ntt_inverse(&s_hat.dot(&u_hat));
     let mut m = [0; 32];
-    write_compressed(1, &(&v - &dot(s, &u)), &mut m);
+    write_compressed(1, &(&v - &masked), &mut m);
     Ok(m)
 }
 
-// The first `count` polynomials of `d` bits for each coefficient.
+// The transforms of the first `count` polynomials of `d` bits for each coefficient.
 fn read_u(
     alloc: Global,
     d: usize,
     count: usize,
     bytes: &[u8],
-) -> Result<Vector<BaseField>, AllocError>
+) -> Result<NttVector<BaseField>, AllocError>
     requires positive { 1 ≤ d }
     requires narrow { d ≤ 11 }
     requires room { 32 * d * count ≤ length bytes.now }
-    ensures value { IfOk result (λ out. out ≡ map (λ i. decompressed d (piece (32 * d) i bytes.now)) (range_with_len 0 count)) }
+    ensures value { IfOk result (λ out. out ≡ map transform (map (λ i. decompressed d (piece (32 * d) i bytes.now)) (range_with_len 0 count))) }
     ensures long { IfOk result (λ out. length out ≡ count) }
 {
     let size = BYTES_PER_BIT * d;
     let mut items = Vec::new(alloc);
     for i in 0..count {
         let start = size * i;
-        items.push(read_decompressed(d, &bytes[start..start + size]))?;
+        items.push(ntt(&read_decompressed(d, &bytes[start..start + size])))?;
     }
-    Ok(Vector::new(items))
+    Ok(NttVector::new(items))
 }

@@ -11,7 +11,7 @@ ghost use Rattle.ml_kem.specs.declared.error.KeyError.TheVariants.{InvalidKey};
 
 use crate::decapsulation_key::DecapsulationKey;
 use crate::encapsulation_key::{EncapsulationKey, is_encapsulation_key};
-use crate::encryption::{NUMBER_BITS, copied, inverse_vector};
+use crate::encryption::{NUMBER_BITS, copied};
 use crate::error::KeyError;
 use crate::parameters::{POLYNOMIAL_BYTES, ParameterSet};
 use ctutils::CtEqSlice;
@@ -111,10 +111,9 @@ fn read_expanded<P: ParameterSet, H: KemHash>(
     ensures { IfOk result (λ key. key ≡ key_of_expanded P.set enc.now) }
 {
     let s_hat = NttVector::decode(alloc, NUMBER_BITS, P::K, secret_bytes_of::<P>(enc))?;
-    let s = inverse_vector(alloc, &s_hat)?;
     let ek = EncapsulationKey::from_checked(alloc, public_bytes::<P>(enc))?;
     let z = copied(z_bytes::<P>(enc));
-    Ok(DecapsulationKey::from_transforms(s, s_hat, ek, z))
+    Ok(DecapsulationKey::from_transforms(s_hat, ek, z))
 }
 
 // The parts of an expanded form.

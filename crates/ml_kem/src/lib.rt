@@ -14,7 +14,6 @@ pub mod ml_kem_1024;
 pub mod ml_kem_512;
 pub mod ml_kem_768;
 mod parameters;
-mod ring;
 mod rounding;
 mod sampling;
 

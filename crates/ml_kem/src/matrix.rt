@@ -1,143 +1,97 @@
-//! The matrix of a public seed, and noise (FIPS 203, algorithm 13).
+//! The matrix of a public seed, and noise, in the transform domain (FIPS 203, algorithm 13).
 
-ghost use Rattle.std.specs.Prelude.{◌≡◌, ◌⊎◌, ◌+◌, ◌<◌, ◌≤◌, IfOk, length};
-ghost use Rattle.module_lattice.specs.Ring.{product};
-ghost use Rattle.module_lattice.specs.Vectors.{matrix_product, RowsHaveLength};
+ghost use Rattle.std.specs.Prelude.{◌≡◌, ◌⊎◌, ◌+◌, ◌<◌, ◌≤◌, All, IfOk, length, map};
+ghost use Rattle.module_lattice.specs.Pairs.{pair_products};
+ghost use Rattle.module_lattice.specs.Ring.{IsPolynomial};
+ghost use Rattle.module_lattice.specs.Vectors.{dot_product};
 ghost use Rattle.ml_kem.specs.Answers.{Answers};
-ghost use Rattle.ml_kem.specs.Matrix.{column, entry, matrix, noise, row, transposed};
+ghost use Rattle.ml_kem.specs.Kept.{IsMatrix};
+ghost use Rattle.ml_kem.specs.Matrix.{column, matrix, noise, row};
+ghost use Rattle.lattice_transform.specs.Transform.{inverse_transform, transform};
 
 use crate::error::KemError;
 use crate::parameters::B32;
-use crate::ring::dot;
 use crate::sampling::{noise_polynomial, sample_ntt};
 use kem_hash::KemHash;
-use lattice_transform::ntt_inverse;
-use module_lattice::{BaseField, Polynomial, Vector};
+use lattice_transform::ntt;
+use module_lattice::{BaseField, NttMatrix, NttPolynomial, NttVector};
 use std::alloc::{AllocError, Global};
 
-/// The matrix A of a seed by its `k` rows of `k` polynomials.
+/// The transforms of the matrix A of a seed, by its `k` rows of `k` polynomials.
 pub(crate) fn sample_matrix<H: KemHash>(
     alloc: Global,
     k: usize,
     rho: &B32,
-) -> Result<Vec<Vector<BaseField>>, KemError>
+) -> Result<NttMatrix<BaseField>, KemError>
     requires { k ≤ 4 }
-    ensures value { Answers (λ rows. rows.items) result (matrix H.family k rho.now) }
-    ensures count { IfOk result (λ rows. length rows.items ≡ k) }
-    ensures rows { IfOk result (λ rows. RowsHaveLength k rows.items) }
+    ensures value { Answers (λ a. map (map inverse_transform) a) result (matrix H.family k rho.now) }
+    ensures is { IfOk result (λ a. IsMatrix H.family k rho.now a) }
 {
     let mut rows = Vec::new(alloc);
     for i in 0..k {
         let row = sample_row::<H>(alloc, k, rho, i)?;
         rows.push(row)?;
     }
-    Ok(rows)
+    Ok(NttMatrix::new(rows))
 }
 
-// Row `i` of the matrix.
+// The transforms of row `i` of the matrix.
 fn sample_row<H: KemHash>(
     alloc: Global,
     k: usize,
     rho: &B32,
     i: usize,
-) -> Result<Vector<BaseField>, KemError>
+) -> Result<NttVector<BaseField>, KemError>
     requires columns { k ≤ 4 }
     requires place { i < 4 }
-    ensures value { Answers (λ items. items) result (row H.family k rho.now i) }
+    ensures value { Answers (λ items. map inverse_transform items) result (row H.family k rho.now i) }
     ensures long { IfOk result (λ items. length items ≡ k) }
+    ensures polynomials { IfOk result (λ items. All (IsPolynomial 3329) items) }
 {
     let mut items = Vec::new(alloc);
     for j in 0..k {
-        match sample_entry::<H>(rho, i, j) {
+        match sample_ntt::<H>(rho, j as u8, i as u8) {
             Some(f) => items.push(f)?,
             None => return Err(KemError::XofExhausted),
         }
     }
-    Ok(Vector::new(items))
+    Ok(NttVector::new(items))
 }
 
-// Entry (i, j) of the matrix.
-fn sample_entry<H: KemHash>(rho: &B32, i: usize, j: usize) -> Option<Polynomial<BaseField>>
-    requires row { i < 4 }
-    requires column { j < 4 }
-    ensures { result ≡ entry H.family rho.now i j }
-{
-    match sample_ntt::<H>(rho, j as u8, i as u8) {
-        Some(f) => Some(ntt_inverse(&f)),
-        None => None,
-    }
-}
-
-/// The product of a matrix with a vector, row by row.
-pub(crate) fn multiply_matrix(
-    alloc: Global,
-    rows: &Vec<Vector<BaseField>>,
-    v: &Vector<BaseField>,
-) -> Result<Vector<BaseField>, AllocError>
-    requires { RowsHaveLength (length v.now) rows.now.items }
-    ensures { IfOk result (λ out. out ≡ matrix_product 3329 (product 3329) rows.now.items v.now) }
-{
-    let mut items = Vec::new(alloc);
-    for i in 0..rows.len() {
-        items.push(dot(&rows[i], v))?;
-    }
-    Ok(Vector::new(items))
-}
-
-/// The product of the transpose of a matrix of `k` columns with a vector.
-pub(crate) fn multiply_transposed(
-    alloc: Global,
-    rows: &Vec<Vector<BaseField>>,
-    k: usize,
-    v: &Vector<BaseField>,
-) -> Result<Vector<BaseField>, AllocError>
-    requires rows { RowsHaveLength k rows.now.items }
-    requires long { length v.now ≡ length rows.now.items }
-    ensures { IfOk result (λ out. out ≡ matrix_product 3329 (product 3329) (transposed k rows.now.items) v.now) }
-{
-    let mut items = Vec::new(alloc);
-    for i in 0..k {
-        let turned = copy_column(alloc, rows, k, i)?;
-        items.push(dot(&turned, v))?;
-    }
-    Ok(Vector::new(items))
-}
-
-// Column `i` of a matrix of `k` columns.
-fn copy_column(
-    alloc: Global,
-    rows: &Vec<Vector<BaseField>>,
-    k: usize,
+/// The sum of the products of column `i` of a matrix with a vector of as many items as it has rows.
+pub(crate) fn column_dot(
+    a: &NttMatrix<BaseField>,
     i: usize,
-) -> Result<Vector<BaseField>, AllocError>
-    requires rows { RowsHaveLength k rows.now.items }
-    requires place { i < k }
-    ensures value { IfOk result (λ out. out ≡ column rows.now.items i) }
-    ensures long { IfOk result (λ out. length out ≡ length rows.now.items) }
+    v: &NttVector<BaseField>,
+) -> NttPolynomial<BaseField>
+    requires place { All (λ row. i < length row) a.now }
+    requires long { length v.now ≡ length a.now }
+    ensures { result ≡ dot_product 3329 pair_products (column a.now i) v.now }
 {
-    let mut items = Vec::new(alloc);
-    for j in 0..rows.len() {
-        items.push(*rows[j].item(i))?;
+    let mut sum = NttPolynomial::default();
+    for j in 0..a.len() {
+        sum = &sum + &(a.item(j).item(i) * v.item(j));
     }
-    Ok(Vector::new(items))
+    sum
 }
 
-/// So many polynomials of the noise of a secret seed, from number `first` on, for an `eta` of 2 or 3.
-pub(crate) fn noise<H: KemHash>(
+/// The transforms of so many polynomials of the noise of a secret seed, from number `first` on, for an
+/// `eta` of 2 or 3.
+pub(crate) fn noise_transforms<H: KemHash>(
     alloc: Global,
     eta: usize,
     seed: &B32,
     first: usize,
     count: usize,
-) -> Result<Vector<BaseField>, AllocError>
+) -> Result<NttVector<BaseField>, AllocError>
     requires eta { (eta ≡ 2) ⊎ (eta ≡ 3) }
     requires numbers { first + count ≤ 256 }
-    ensures value { IfOk result (λ out. out ≡ noise H.family eta seed.now first count) }
+    ensures value { IfOk result (λ out. out ≡ map transform (noise H.family eta seed.now first count)) }
     ensures long { IfOk result (λ out. length out ≡ count) }
 {
     let mut items = Vec::new(alloc);
     for i in 0..count {
-        items.push(noise_polynomial::<H>(eta, seed, (first + i) as u8))?;
+        items.push(ntt(&noise_polynomial::<H>(eta, seed, (first + i) as u8)))?;
     }
-    Ok(Vector::new(items))
+    Ok(NttVector::new(items))
 }

@@ -5,7 +5,17 @@ ghost use Rattle.ml_kem.specs.Encryption.{compressed, decompressed};
 ghost use Rattle.ml_kem.specs.Rounding.{compress, decompress};
 
 use crate::parameters::{DEGREE, Q};
+use lattice_transform::laws::compression_by_multiplier;
 use module_lattice::{BaseField, Polynomial, byte_decode, byte_encode};
+
+// Half of q, rounded up.
+const HALF_OF_Q: u64 = 1665;
+
+// 2^34 over q, rounded down: a product by it stands for a division by q.
+const MULTIPLIER: u64 = 5160669;
+
+// The shift that goes with the multiplier.
+const SHIFT: u32 = 34;
 
 /// Compress: the `d` bits of a number below 3329, rounded to the nearest. The width `d` is 1 to 11.
 pub fn compress(d: usize, x: u32) -> u32
@@ -15,7 +25,9 @@ pub fn compress(d: usize, x: u32) -> u32
     ensures value { result ≡ compress d x }
     ensures in_width { result < 2 ^ d }
 {
-    ((x << (d + 1)) + Q) / (2 * Q) % (1 << d)
+    compression_by_multiplier();
+    let scaled = ((x as u64) << d) + HALF_OF_Q;
+    ((scaled * MULTIPLIER) >> SHIFT) as u32 % (1 << d)
 }
 
 /// Decompress: the number below 3329 that `d` bits stand for, rounded to the nearest. The width `d`

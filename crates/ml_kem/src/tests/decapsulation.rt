@@ -8,21 +8,59 @@ use sha2::{Digest, Sha256};
 use std::alloc::Global;
 use std::test::Fail;
 
+// The key of a seed.
+fn key_of<P: ParameterSet, H: KemHash>(
+    alloc: Global,
+    seed: &str,
+) -> Result<DecapsulationKey<P, H>, Fail> {
+    let mut bytes = [0; 64];
+    hex::decode_to_slice(seed, &mut bytes)?;
+    Ok(DecapsulationKey::<P, H>::from_seed(alloc, &bytes)?)
+}
+
+// The SHA-256 of the encapsulation key.
+fn public_hash<P: ParameterSet, H: KemHash>(
+    alloc: Global,
+    key: &DecapsulationKey<P, H>,
+) -> Result<String, Fail> {
+    let ek = key.encapsulation_key().to_bytes()?;
+    Ok(hex::encode(alloc, &Sha256::digest(ek.as_slice()))?)
+}
+
+// What the sender of an encapsulation of zeros keeps, and what it sends.
+fn sent<P: ParameterSet, H: KemHash>(
+    alloc: Global,
+    key: &DecapsulationKey<P, H>,
+) -> Result<(String, Ciphertext<P>), Fail> {
+    let (c, shared) = key.encapsulation_key().encapsulate_deterministic(&[0; 32])?;
+    Ok((hex::encode(alloc, &shared)?, c))
+}
+
+// What a ciphertext is answered with.
+fn received<P: ParameterSet, H: KemHash>(
+    alloc: Global,
+    key: &DecapsulationKey<P, H>,
+    c: &Ciphertext<P>,
+) -> Result<String, Fail> {
+    Ok(hex::encode(alloc, &key.decapsulate(c)?)?)
+}
+
+// A ciphertext of zeros.
+fn made_up<P: ParameterSet>(alloc: Global) -> Result<Ciphertext<P>, Fail> {
+    let zeros = vec![in alloc; 0; P::CT_SIZE]?;
+    Ok(Ciphertext::from_slice(alloc, zeros.as_slice())?)
+}
+
 // The SHA-256 of the encapsulation key, the keys that both sides of an encapsulation of zeros have, and
 // the key that a ciphertext of zeros is answered with.
 fn outcomes<P: ParameterSet, H: KemHash>(alloc: Global, seed: &str) -> Result<[String; 4], Fail> {
-    let mut bytes = [0; 64];
-    hex::decode_to_slice(seed, &mut bytes)?;
-    let key = DecapsulationKey::<P, H>::from_seed(alloc, &bytes)?;
-    let ek = key.encapsulation_key().to_bytes()?;
-    let (c, shared) = key.encapsulation_key().encapsulate_deterministic(&[0; 32])?;
-    let zeros = vec![in alloc; 0; P::CT_SIZE]?;
-    let made_up = Ciphertext::from_slice(alloc, zeros.as_slice())?;
+    let key = key_of::<P, H>(alloc, seed)?;
+    let (shared, c) = sent(alloc, &key)?;
     Ok([
-        hex::encode(alloc, &Sha256::digest(ek.as_slice()))?,
-        hex::encode(alloc, &shared)?,
-        hex::encode(alloc, &key.decapsulate(&c)?)?,
-        hex::encode(alloc, &key.decapsulate(&made_up)?)?,
+        public_hash(alloc, &key)?,
+        shared,
+        received(alloc, &key, &c)?,
+        received(alloc, &key, &made_up(alloc)?)?,
     ])
 }
 

@@ -1,4 +1,4 @@
-use Rattle.std.proofs.Common.{rules, ◌∙◌, arith, refl}
+use Rattle.std.proofs.Common.{rules, ◌∙◌, arith}
 use Rattle.kem_hash.proofs.Joined.{digest_written, digests_written}
 use Rattle.ml_kem.proofs.tests.families.repeat.Goals as goal
 

@@ -1,7 +1,0 @@
-use Rattle.std.proofs.Common.{◌≡◌, map}
-use Rattle.std.specs.List.{range_with_len}
-use Rattle.ml_kem.specs.Matrix.{noise_polynomial}
-use Rattle.ml_kem.proofs.matrix.noise.Given as goal
-
-abbrev pub invariant-loop-i : goal.invariant-loop-i
-invariant-loop-i g l = l.items.items ≡ map (noise_polynomial g.H.KemHash.family l.eta l.seed) (range_with_len l.first l.i)
