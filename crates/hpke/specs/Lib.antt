@@ -22,3 +22,7 @@ pub mod SingleShot
 pub mod Mask
 -- the laws of the test KEM: proofs, and no definitions
 pub mod MaskLaws
+-- the KEM of ML-KEM
+pub mod Lattice
+-- the laws of the KEM of ML-KEM: proofs, and no definitions
+pub mod LatticeLaws

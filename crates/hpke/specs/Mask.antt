@@ -1,8 +1,7 @@
 -- The test KEM: the secret is the key XOR the encapsulated key. It has no secrecy.
-use Rattle.std.specs.Prelude.{◌≡◌, ℕ, List, [], length, codes, Option, Some, None}
-use Rattle.sha2.specs.Sha256.{sha256}
+use Rattle.std.specs.Prelude.{◌≡◌, ℕ, List, length, Option, Some, None}
 use Rattle.hpke.specs.Bytes.{IsBytes, xor_bytes}
-use Rattle.hpke.specs.Labels.{kem_suite, labeled_extract, labeled_expand}
+use Rattle.hpke.specs.Labels.{derived_key}
 
 -- any 32 bytes are a key, and an encapsulated key
 abbrev pub IsMaskKey : List ℕ → Type 0
@@ -24,8 +23,7 @@ mask_encap pk (Some sender) draw = None
 
 -- the key of input keying material, by HKDF-SHA256
 abbrev pub mask_key : List ℕ → List ℕ
-mask_key ikm = let suite = kem_suite 0xFF00 in
-    labeled_expand sha256 64 (labeled_extract sha256 64 [] suite (codes "dkp_prk") ikm) suite (codes "sk") [] 32
+mask_key ikm = derived_key 0xFF00 ikm 32
 
 -- the pair of keys of input keying material
 abbrev pub mask_derive : List ℕ → Option (List ℕ × List ℕ)

@@ -2,7 +2,7 @@
 
 ghost use Rattle.std.specs.Prelude.{◌≡◌, ◌*◌, ◌<◌, ◌≤◌, ◌↔◌, ℕ, List, [], length, IsErr, OnOk, OnErr};
 ghost use Rattle.hkdf_core.specs.Hmac.{key_block};
-ghost use Rattle.hpke.specs.Labels.{kem_suite, hpke_suite, labeled_extract, labeled_expand, extract_and_expand};
+ghost use Rattle.hpke.specs.Labels.{kem_suite, hpke_suite, labeled_extract, labeled_expand, extract_and_expand, derived_key};
 ghost use Rattle.hpke.specs.Schedule.{KdfAlgorithm};
 
 use crate::short::{MAX_SHORT, ShortBytes};
@@ -196,6 +196,18 @@ pub fn expand_short<T: HkdfHash>(
     let mut bytes = [0; MAX_SHORT];
     fill_short(hkdf, suite_id, label, info, &mut bytes[..len]);
     ShortBytes::from_slice(&bytes[..len])
+}
+
+/// The private key of `len` bytes, at most [`MAX_SHORT`], that input keying material gives under a
+/// KEM's identifier, by HKDF-SHA256 (RFC 9180, section 7.1.3).
+pub fn derive_short(kem_id: u16, ikm: &[u8], len: usize) -> ShortBytes
+    requires { len ≤ MAX_SHORT }
+    ensures value { result ≡ derived_key kem_id ikm.now len }
+    ensures size { length result ≡ len }
+{
+    let suite_id = kem_suite_id(kem_id);
+    let (_prk, hkdf) = labeled_extract::<HkdfSha256>(&[], &suite_id, b"dkp_prk", ikm);
+    expand_short(&hkdf, &suite_id, b"sk", &[], len)
 }
 
 // LabeledExpand that fills at most MAX_SHORT bytes.

@@ -1,11 +1,16 @@
 //! What holds of the definitions that the contracts of this crate cite, and of the calls together.
 
-ghost use Rattle.std.specs.Prelude.{◌≡◌, ◌≢◌, ℕ, List, Option, None, Some, Err, IfOk, OnOk};
+ghost use Rattle.std.specs.Prelude.{◌≡◌, ◌≢◌, ◌↔◌, ℕ, List, Option, None, Some, Err, IfOk, IsSome, OnOk, take};
 ghost use Rattle.std.specs.Option.{option_map};
 ghost use Rattle.sha2.specs.Sha256.{sha256};
 ghost use Rattle.sha2.specs.Sha512.{sha384, sha512};
 ghost use Rattle.rand_core.specs.Stream.{fill_bytes};
+ghost use Rattle.kem_hash.specs.Family.{Family};
+ghost use Rattle.ml_kem.specs.Keys.{expanded_seed, rho_part};
+ghost use Rattle.ml_kem.specs.Matrix.{matrix};
+ghost use Rattle.ml_kem.specs.Parameters.{Parameters};
 ghost use Rattle.hpke.specs.Answers.{Answers};
+ghost use Rattle.hpke.specs.Lattice.{lattice_decap, lattice_derive, lattice_encap, lattice_seed};
 ghost use Rattle.hpke.specs.Mask.{mask_decap, mask_encap, mask_public};
 ghost use Rattle.hpke.specs.Nonce.{nonce_of};
 ghost use Rattle.hpke.specs.RecipientMode.{recipient_mode, recipient_sender};
@@ -20,10 +25,13 @@ use crate::error::HpkeError;
 use crate::export_only::{EmptyAeadImpl, ExportOnlyAead};
 use crate::kdf::{HkdfSha256, HkdfSha384, HkdfSha512, Kdf};
 use crate::kem::Kem;
+use crate::lattice::LatticeKem;
 use crate::mask::MaskKem;
 use crate::mode::{OpModeR, OpModeS};
 use crate::setup::{setup_receiver, setup_sender};
 use gcm_core::{AesGcm128Impl, AesGcm256Impl};
+use kem_hash::KemHash;
+use ml_kem::{MlKem512, MlKem768, MlKem1024};
 use rand_core::Rng;
 use std::alloc::Global;
 
@@ -40,6 +48,26 @@ pub fn registered_identifiers()
     ensures export_only { ⟦<ExportOnlyAead as Aead>⟧.aead ≡ record { key_size = 0; nonce_size = 128; aead_id = 0xFFFF } }
     ensures export_only_tag { ⟦<EmptyAeadImpl as BaseAead>⟧.TAG_SIZE ≡ 0 }
     ensures mask { ⟦<MaskKem as Kem>⟧.KEM_ID ≡ 0xFF00 }
+{}
+
+/// The identifiers of ML-KEM, over any lawful family of hash functions.
+pub fn lattice_identifiers<H: KemHash>()
+    ensures k512 { ⟦<LatticeKem<MlKem512, H> as Kem>⟧.KEM_ID ≡ 0x0040 }
+    ensures k768 { ⟦<LatticeKem<MlKem768, H> as Kem>⟧.KEM_ID ≡ 0x0041 }
+    ensures k1024 { ⟦<LatticeKem<MlKem1024, H> as Kem>⟧.KEM_ID ≡ 0x0042 }
+{}
+
+/// When the meanings of [`LatticeKem`] are none, by the samples of a matrix: without a sender's
+/// identity encapsulation is, exactly where one of the public key's matrix is none; derivation is,
+/// exactly where one of the derived seed's is; and of a seed whose samples are there, decapsulation
+/// never is.
+pub fn lattice_refusals()
+    ensures encap { (set : Parameters) (family : Family) (pk draw : List ℕ)
+        → (lattice_encap set family pk None draw ≡ None) ↔ (matrix family set.k (rho_part set pk) ≡ None) }
+    ensures derive { (set : Parameters) (family : Family) (ikm : List ℕ)
+        → (lattice_derive set family ikm ≡ None) ↔ (matrix family set.k (take 32 (expanded_seed set family (lattice_seed set ikm))) ≡ None) }
+    ensures decap { (set : Parameters) (family : Family) (sk enc : List ℕ)
+        → matrix family set.k (take 32 (expanded_seed set family sk)) ≢ None → IsSome (lattice_decap set family sk None enc) }
 {}
 
 /// Where decapsulation gives the secret that encapsulation gave, and mode, info and pre-shared key

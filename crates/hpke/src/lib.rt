@@ -8,6 +8,7 @@ mod error;
 mod export_only;
 mod kdf;
 mod kem;
+mod lattice;
 pub mod laws;
 mod mask;
 mod mode;
@@ -27,6 +28,7 @@ pub use kdf::{
     HkdfSha256, HkdfSha384, HkdfSha512, Kdf, LabeledExpand, extract_and_expand, labeled_extract,
 };
 pub use kem::Kem;
+pub use lattice::{LatticeKem, LatticePrivateKey, LatticePublicKey};
 pub use mask::{MaskKem, MaskKey};
 pub use mode::{OpModeR, OpModeS, PskBundle};
 pub use secret::{SecretSize, SharedSecret};

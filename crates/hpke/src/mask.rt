@@ -5,7 +5,7 @@ ghost use Rattle.hpke.specs.Bytes.{xor_bytes};
 ghost use Rattle.hpke.specs.Mask.{IsMaskKey, mask_key, mask_public, mask_decap, mask_encap, mask_derive};
 
 use crate::error::HpkeError;
-use crate::kdf::{HkdfSha256, expand_short, kem_suite_id, labeled_extract};
+use crate::kdf::derive_short;
 use crate::kem::Kem;
 use crate::secret::{SecretSize, SharedSecret};
 use crate::serial::{Deserializable, Serializable};
@@ -165,9 +165,7 @@ impl Kem for MaskKem {
 fn derive_key(ikm: &[u8]) -> [u8; MASK_LEN]
     ensures { result ≡ mask_key ikm.now }
 {
-    let suite_id = kem_suite_id(MASK_KEM_ID);
-    let (_prk, hkdf) = labeled_extract::<HkdfSha256>(&[], &suite_id, b"dkp_prk", ikm);
-    let short = expand_short(&hkdf, &suite_id, b"sk", &[], MASK_LEN);
+    let short = derive_short(MASK_KEM_ID, ikm, MASK_LEN);
     let mut bytes = [0; MASK_LEN];
     bytes.copy_from_slice(short.as_slice());
     bytes
