@@ -141,6 +141,9 @@ impl StanzaReader {
         ensures given { IfOk result (λ stanza. Receives self.old self.new (S.left source.old) (S.left source.new) (stanza_of stanza ∷ [])) }
         // At most 4095 bytes are held behind a stanza that had to be read.
         ensures behind { OnOk result (BeginsNone self.old.bytes → length self.new.bytes ≤ 4095) }
+        // Nor are more held behind it where a refusal, for want of memory, leaves it held.
+        ensures behind_refusal { OnErr result (BeginsNone self.old.bytes → (stanza : Spelled) (rest : List ℕ) → IsStanza stanza
+            → self.new.bytes ≡ spelling stanza ++ rest → length rest ≤ 4095) }
         // What is no proper prefix of a spelling is enough, and nothing is read.
         ensures unread { (IsFront self.old.bytes → ⊥) → source.new ≡ source.old }
 

@@ -1,6 +1,7 @@
 use Rattle.std.proofs.Common.{◌≡◌, ℕ, List, [], ◌++◌, refl, ap, sym, subst, ◌∙◌, inl, inr, arith}
 use Rattle.age_core.specs.Stanza.{IsFront, stanza_of}
 use Rattle.age_core.specs.Receiving.{Held}
+use Rattle.age_core.proofs.Commands.{on_err}
 use Rattle.age_core.proofs.Receipts.{receives_none, receives_both, receives_read, receives_held, behind_last}
 use Rattle.age_core.proofs.plugin.reader.StanzaReader.receive_from.Goals as goal
 
@@ -38,3 +39,14 @@ pub returns-in-Stanza-clause-behind : goal.returns-in-Stanza-clause-behind
 returns-in-Stanza-clause-behind g c none =
     let stanza = c.in_ok-stanza.ensures.stanza c.in-Stanza.stanza c.in-Stanza.is in
     behind_last c.args.self.now.bytes c.loop-stanza.self.bytes c.look.new.self.bytes (stanza_of c.in-Stanza.stanza) c.loop-stanza.invariant.last stanza.0 stanza.1 none
+
+pub returns-in_err-stanza-clause-behind_refusal : goal.returns-in_err-stanza-clause-behind_refusal
+returns-in_err-stanza-clause-behind_refusal g c =
+    let same = sym c.in_err-stanza.ensures.memory in
+    on_err c.from_residual.result (λ none stanza rest is e. behind_last c.args.self.now.bytes c.loop-stanza.self.bytes rest stanza c.loop-stanza.invariant.last is (same ∙ e) none)
+
+pub returns-in_err-read_piece-in-Front-clause-behind_refusal : goal.returns-in_err-read_piece-in-Front-clause-behind_refusal
+returns-in_err-read_piece-in-Front-clause-behind_refusal g c =
+    let front = c.in_ok-stanza.ensures.front c.in-Front.is in
+    let held : c.read_piece.new.self.bytes ≡ c.loop-stanza.self.bytes = ap (λ (h : Held). h.bytes) c.in_err-read_piece-in-Front.ensures.unread.0 ∙ front.1 in
+    on_err c.from_residual-in_err-read_piece-in-Front.result (λ none stanza rest is e. behind_last c.args.self.now.bytes c.loop-stanza.self.bytes rest stanza c.loop-stanza.invariant.last is (sym held ∙ e) none)
