@@ -2,6 +2,7 @@
 #![tactic(auto)]
 
 use age_core::outside::{StdSink, StdSource};
+use kem_hash::Sha2Hash;
 use kem_mail::mail_main;
 use std::alloc::Global;
 use std::env::{self, Env};
@@ -30,5 +31,6 @@ fn main(rt: HostRuntime) -> ExitCode {
     };
     let mut src = StdSource::new(rt.stdin());
     let mut out = StdSink::new(rt.stdout());
-    ExitCode::from(mail_main(rt.alloc(), &words, &mut src, &mut out))
+    let status = mail_main::<Sha2Hash, _, _>(rt.alloc(), &words, &mut src, &mut out);
+    ExitCode::from(status)
 }

@@ -1,51 +1,194 @@
 -- Words and a text have one due answer.
-use Rattle.std.proofs.Common.{◌≡◌, ℕ, List, [], ◌∷◌, ◌++◌, take, Option, Some, refl, sym, ap, subst, ◌∙◌, inl, inr}
-use Rattle.std.specs.Prelude.{codes}
-use Rattle.age_core.specs.Stanza.{Stanza}
-use Rattle.age_core.proofs.Readings.{same_stanzas_before}
-use Rattle.kem_mail.specs.Mail.{Opener, Opens, bodies, judged}
-use Rattle.kem_mail.specs.Lines.{lines}
-use Rattle.kem_mail.specs.Due.{Due, HoldsMail, opener}
-use Rattle.kem_mail.proofs.Heads.{one_head}
+use Rattle.std.proofs.Common.{◌≡◌, ◌≢◌, ◌⊎◌, ℕ, ◌≤◌, ◌<◌, List, [], ◌∷◌, ◌++◌, Option, Some, None, Ok, Err, get_or, refl, sym, ap, subst, ◌∙◌, inl, inr, arith}
+use Rattle.std.specs.Prelude.{codes, decimal}
+use Rattle.std.proofs.lemmas.Fmt.{decimal_injective}
+use Rattle.kem_hash.specs.Family.{Family}
+use Rattle.ml_kem.specs.Parameters.{Parameters}
+use Rattle.ml_kem.specs.Keys.{key_of, Key as KeyRecord}
+use Rattle.gcm_core.specs.Gcm.{open_of}
+use Rattle.hpke.specs.Schedule.{KdfAlgorithm, AeadAlgorithm}
+use Rattle.kem_mail.specs.Command.{Spells, words_of, set_word, kdf_word, aead_word, parameters, kdf_algorithm, aead_algorithm}
+use Rattle.kem_mail.specs.Input.{IsHead, IsSeedLine, IsPart, FailsAt}
+use Rattle.kem_mail.specs.Lines.{fault_line}
+use Rattle.kem_mail.specs.Mail.{OpenMeaning, OpensByKey, Verdict, lattice_opener}
+use Rattle.kem_mail.specs.Due.{Due, ComesTo, IsInput, IsJudged, key_verdict, no_command_line, verdict_output, verdict_status}
+use Rattle.kem_mail.specs.declared.command.Command.{Command}
+use Rattle.kem_mail.specs.declared.command.Command.TheVariants.{Open, Key}
+use Rattle.kem_mail.specs.declared.command.SuiteName.{SuiteName}
+use Rattle.kem_mail.specs.declared.command.SetName.{SetName}
+use Rattle.kem_mail.specs.declared.command.SetName.TheVariants.{Set512, Set768, Set1024}
+use Rattle.kem_mail.specs.declared.command.KdfName.{KdfName}
+use Rattle.kem_mail.specs.declared.command.KdfName.TheVariants.{Sha256, Sha384, Sha512}
+use Rattle.kem_mail.specs.declared.command.AeadName.{AeadName}
+use Rattle.kem_mail.specs.declared.command.AeadName.TheVariants.{Aes128, Aes256}
+use Rattle.kem_mail.specs.declared.error.MailError.TheVariants.{XofExhausted}
+use Rattle.kem_mail.proofs.Inputs.{IsEnded, Stands, one_front, one_head_end, one_head_value, one_input_end, one_line_end, one_line_value, one_place, fails_no_part, some_input, whole_no_fails, whole_no_part}
+use Rattle.kem_mail.proofs.Verdicts.{same_verdict, some_verdict}
 
-same_judgement : (o : Option (List (List ℕ))) (messages others : List (List ℕ)) → o ≡ Some messages → o ≡ Some others → messages ≡ others
-same_judgement o messages others e f = let same : Some messages ≡ Some others = sym e ∙ f in cc
+-- ---- words
 
--- a mail opens to one list of messages
-same_opens : (opener : Opener) (text : List ℕ) (budget : ℕ) (messages others : List (List ℕ)) → Opens opener text budget messages → Opens opener text budget others → messages ≡ others
-same_opens opener text budget messages others d e =
-    let stanzas : d.stanzas ≡ e.stanzas = same_stanzas_before (take budget text) d.stanzas e.stanzas d.reads e.reads in
-    same_judgement (judged opener (bodies (codes "kem") e.stanzas) (bodies (codes "msg") e.stanzas)) messages others
-    (ap (λ (t : List Stanza). judged opener (bodies (codes "kem") t) (bodies (codes "msg") t)) (sym stanzas) ∙ d.judges) e.judges
+set_word-injective : (s t : SetName) → set_word s ≡ set_word t → s ≡ t
+set_word-injective Set512 Set512 e = refl
+set_word-injective Set512 Set768 e = absurd (let d : 53 ≡ 55 = ap (λ (l : List ℕ). get_or l 0 0) e in omega (arith, d))
+set_word-injective Set512 Set1024 e = absurd (let d : 53 ≡ 49 = ap (λ (l : List ℕ). get_or l 0 0) e in omega (arith, d))
+set_word-injective Set768 Set512 e = absurd (let d : 55 ≡ 53 = ap (λ (l : List ℕ). get_or l 0 0) e in omega (arith, d))
+set_word-injective Set768 Set768 e = refl
+set_word-injective Set768 Set1024 e = absurd (let d : 55 ≡ 49 = ap (λ (l : List ℕ). get_or l 0 0) e in omega (arith, d))
+set_word-injective Set1024 Set512 e = absurd (let d : 49 ≡ 53 = ap (λ (l : List ℕ). get_or l 0 0) e in omega (arith, d))
+set_word-injective Set1024 Set768 e = absurd (let d : 49 ≡ 55 = ap (λ (l : List ℕ). get_or l 0 0) e in omega (arith, d))
+set_word-injective Set1024 Set1024 e = refl
 
-same_messages : (text : List ℕ) (messages others : List (List ℕ)) → HoldsMail text messages → HoldsMail text others → messages ≡ others
-same_messages text messages others d e =
-    let same = one_head text d.seed d.info d.rest e.seed e.info e.rest d.head e.head in
-    let seeds : Opens (opener (take 32 e.seed) d.info) d.rest 16777216 messages = subst (λ (t : List ℕ). Opens (opener (take 32 t) d.info) d.rest 16777216 messages) same.0 d.opens in
-    let infos : Opens (opener (take 32 e.seed) e.info) d.rest 16777216 messages = subst (λ (t : List ℕ). Opens (opener (take 32 e.seed) t) d.rest 16777216 messages) same.1 seeds in
-    same_opens (opener (take 32 e.seed) e.info) e.rest 16777216 messages others (subst (λ (t : List ℕ). Opens (opener (take 32 e.seed) e.info) t 16777216 messages) same.2 infos) e.opens
+kdf_word-injective : (s t : KdfName) → kdf_word s ≡ kdf_word t → s ≡ t
+kdf_word-injective Sha256 Sha256 e = refl
+kdf_word-injective Sha256 Sha384 e = absurd (let d : 50 ≡ 51 = ap (λ (l : List ℕ). get_or l 3 0) e in omega (arith, d))
+kdf_word-injective Sha256 Sha512 e = absurd (let d : 50 ≡ 53 = ap (λ (l : List ℕ). get_or l 3 0) e in omega (arith, d))
+kdf_word-injective Sha384 Sha256 e = absurd (let d : 51 ≡ 50 = ap (λ (l : List ℕ). get_or l 3 0) e in omega (arith, d))
+kdf_word-injective Sha384 Sha384 e = refl
+kdf_word-injective Sha384 Sha512 e = absurd (let d : 51 ≡ 53 = ap (λ (l : List ℕ). get_or l 3 0) e in omega (arith, d))
+kdf_word-injective Sha512 Sha256 e = absurd (let d : 53 ≡ 50 = ap (λ (l : List ℕ). get_or l 3 0) e in omega (arith, d))
+kdf_word-injective Sha512 Sha384 e = absurd (let d : 53 ≡ 51 = ap (λ (l : List ℕ). get_or l 3 0) e in omega (arith, d))
+kdf_word-injective Sha512 Sha512 e = refl
 
-pub same_due : (words : List (List ℕ)) (text : List ℕ) (one other : ℕ) (output another : List ℕ) → Due words text one output → Due words text other another → (one ≡ other) × (output ≡ another)
-same_due words text one other output another (inl d) (inl e) =
-    let messages : d.messages ≡ e.messages = same_messages text d.messages e.messages d.mail e.mail in
-    (d.status_is ∙ sym e.status_is, d.output_is ∙ (ap lines messages ∙ sym e.output_is))
-same_due words text one other output another (inl d) (inr (inl e)) = absurd (e.command d.command)
-same_due words text one other output another (inl d) (inr (inr e)) = absurd (e.mail d.messages d.mail)
-same_due words text one other output another (inr (inl d)) (inl e) = absurd (d.command e.command)
-same_due words text one other output another (inr (inl d)) (inr (inl e)) = (d.status_is ∙ sym e.status_is, d.output_is ∙ sym e.output_is)
-same_due words text one other output another (inr (inl d)) (inr (inr e)) = absurd (d.command e.command)
-same_due words text one other output another (inr (inr d)) (inl e) = absurd (d.mail e.messages e.mail)
-same_due words text one other output another (inr (inr d)) (inr (inl e)) = absurd (e.command d.command)
-same_due words text one other output another (inr (inr d)) (inr (inr e)) = (d.status_is ∙ sym e.status_is, d.output_is ∙ sym e.output_is)
+aead_word-injective : (s t : AeadName) → aead_word s ≡ aead_word t → s ≡ t
+aead_word-injective Aes128 Aes128 e = refl
+aead_word-injective Aes128 Aes256 e = absurd (let d : 49 ≡ 50 = ap (λ (l : List ℕ). get_or l 3 0) e in omega (arith, d))
+aead_word-injective Aes256 Aes128 e = absurd (let d : 50 ≡ 49 = ap (λ (l : List ℕ). get_or l 3 0) e in omega (arith, d))
+aead_word-injective Aes256 Aes256 e = refl
 
-pub some_due : (words : List (List ℕ)) (text : List ℕ) → ((status : ℕ) (output : List ℕ) → Due words text status output → ⊥) → ⊥
-some_due words text none = none 2 (codes "! words" ++ 10 ∷ []) (inr (inl (record {
-  command = λ command. none 3 (codes "! NotMail" ++ 10 ∷ []) (inr (inr (record {
-    command = command;
-    mail = λ messages mail. none 0 (lines messages) (inl (record { command = command; messages = messages; mail = mail; status_is = refl; output_is = refl }));
-    status_is = refl;
-    output_is = refl;
-  })));
+-- equal in three places
+ap₃ : {A B C D : Type 0} (f : A → B → C → D) {a a' : A} {b b' : B} {c c' : C} → a ≡ a' → b ≡ b' → c ≡ c' → f a b c ≡ f a' b' c'
+ap₃ f e g h = rw (e, g, h) refl
+
+-- lists with one more are equal in both parts
+heads : (x y : List ℕ) (xs ys : List (List ℕ)) → x ∷ xs ≡ y ∷ ys → (x ≡ y) × (xs ≡ ys)
+heads x y xs ys e = (cc, cc)
+
+same_suite : (s t : SuiteName) → s.set ≡ t.set → s.kdf ≡ t.kdf → s.aead ≡ t.aead → s ≡ t
+same_suite s t e f g = ap₃ (λ (a : SetName) (b : KdfName) (c : AeadName). record { set = a; kdf = b; aead = c }) e f g
+
+words_of-injective : (c d : Command) (words : List (List ℕ)) → Spells words c → Spells words d → words_of c ≡ words_of d → c ≡ d
+words_of-injective (Open s b) (Open t d) words h k e =
+    let sets = heads (codes "open") (codes "open") _ _ e in
+    let kdfs = heads (set_word s.set) (set_word t.set) _ _ sets.1 in
+    let aeads = heads (kdf_word s.kdf) (kdf_word t.kdf) _ _ kdfs.1 in
+    let budgets = heads (aead_word s.aead) (aead_word t.aead) _ _ aeads.1 in
+    let numbers = heads (decimal b) (decimal d) [] [] budgets.1 in
+    let suites : s ≡ t = same_suite s t (set_word-injective s.set t.set kdfs.0) (kdf_word-injective s.kdf t.kdf aeads.0) (aead_word-injective s.aead t.aead budgets.0) in
+    let same : b ≡ d = let p = h.is_command.1 in let q = k.is_command.1 in decimal_injective b d (omega (arith, p)) (omega (arith, q)) numbers.0 in
+    rw (suites, same) refl
+words_of-injective (Open s b) (Key t) words h k e = absurd cc
+words_of-injective (Key s) (Open t d) words h k e = absurd cc
+words_of-injective (Key s) (Key t) words h k e = ap Key (set_word-injective s t (heads (set_word s) (set_word t) [] [] (heads (codes "key") (codes "key") _ _ e).1).0)
+
+-- words spell one command
+pub one_command : (words : List (List ℕ)) (c d : Command) → Spells words c → Spells words d → c ≡ d
+one_command words c d h k = words_of-injective c d words h k (sym h.words_are ∙ k.words_are)
+
+-- ---- what a command comes to
+
+-- a mail has one verdict for a lattice key
+pub same_by_key : (set : Parameters) (family : Family) (kdf : KdfAlgorithm) (aead : AeadAlgorithm) (meaning : OpenMeaning) (seed info text : List ℕ) (budget : ℕ) (v w : Verdict)
+    → OpensByKey set family kdf aead meaning seed info text budget v → OpensByKey set family kdf aead meaning seed info text budget w → v ≡ w
+same_by_key set family kdf aead meaning seed info text budget v w one other = by (key_of set family seed) refl
+  where
+    by : (key : Option KeyRecord) → key_of set family seed ≡ key → v ≡ w
+    by None e = one.without_key e ∙ sym (other.without_key e)
+    by (Some key) e = same_verdict (lattice_opener set family kdf aead meaning seed info) text budget v w (one.with_key key e) (other.with_key key e)
+
+-- no mail is without one
+pub some_by_key : (set : Parameters) (family : Family) (kdf : KdfAlgorithm) (aead : AeadAlgorithm) (meaning : OpenMeaning) (seed info text : List ℕ) (budget : ℕ)
+    → ((v : Verdict) → OpensByKey set family kdf aead meaning seed info text budget v → ⊥) → ⊥
+some_by_key set family kdf aead meaning seed info text budget none = by (key_of set family seed) refl
+  where
+    by : (key : Option KeyRecord) → key_of set family seed ≡ key → ⊥
+    by None e = none (Err XofExhausted) (record { without_key = λ _. refl; with_key = λ key f. absurd (let g = sym e ∙ f in cc) })
+    by (Some key) e = some_verdict (lattice_opener set family kdf aead meaning seed info) text budget (λ v opens. none v (record {
+      without_key = λ f. absurd (let g = sym e ∙ f in cc);
+      with_key = λ other f. let g : Some key ≡ Some other = sym e ∙ f in opens;
+    }))
+
+-- a command comes to one verdict over a text
+pub same_comes : (family : Family) (command : Command) (text : List ℕ) (v w : Verdict) → ComesTo family command text v → ComesTo family command text w → v ≡ w
+same_comes family (Open suite budget) text v w (head, seed, info, rest, whole, is, opens) (head', seed', info', rest', whole', is', opens') =
+    let both = one_head_end head head' rest rest' (seed, info, is) (seed', info', is') (sym whole ∙ whole') in
+    let values = one_head_value head seed info seed' info' is (subst (λ (t : List ℕ). IsHead t seed' info') (sym both.0) is') in
+    same_by_key (parameters suite.set) family (kdf_algorithm suite.kdf) (aead_algorithm suite.aead) open_of seed info rest budget v w opens
+    (rw (values.0, values.1, both.1) opens')
+same_comes family (Key set) text v w (line, seed, rest, whole, is, comes) (line', seed', rest', whole', is', comes') =
+    let both = one_line_end 128 128 line line' rest rest' (seed, is) (seed', is') (sym whole ∙ whole') in
+    let value = one_line_value 128 128 line seed seed' is (subst (λ (t : List ℕ). IsSeedLine t seed') (sym both.0) is') in
+    comes ∙ (ap (λ (t : List ℕ). key_verdict (key_of (parameters set) family t)) value ∙ sym comes')
+
+-- the whole input at the front of a text that a command comes to something over
+comes_whole : (family : Family) (command : Command) (text : List ℕ) (v : Verdict) → ComesTo family command text v → (input rest : List ℕ) × (text ≡ input ++ rest) × IsInput command input
+comes_whole family (Open suite budget) text v (head, seed, info, rest, whole, is, opens) = (head, rest, whole, (seed, info, is))
+comes_whole family (Key set) text v (line, seed, rest, whole, is, comes) = (line, rest, whole, (seed, is))
+
+-- ---- what is due
+
+comes_no_fails : (family : Family) (command : Command) (text : List ℕ) (v : Verdict) (place : ℕ) → ComesTo family command text v → FailsAt (IsInput command) text place → ⊥
+comes_no_fails family command text v place c f =
+    let w = comes_whole family command text v c in whole_no_fails (IsInput command) (one_input_end command) text w.0 w.1 place w.2 w.3 f
+
+comes_no_part : (family : Family) (command : Command) (text : List ℕ) (v : Verdict) → ComesTo family command text v → IsPart (IsInput command) text → ⊥
+comes_no_part family command text v c p =
+    let w = comes_whole family command text v c in whole_no_part (IsInput command) (one_input_end command) text w.0 w.1 w.2 w.3 p
+
+pub same_due : (family : Family) (words : List (List ℕ)) (text : List ℕ) (one other : ℕ) (output another : List ℕ) → Due family words text one output → Due family words text other another → (one ≡ other) × (output ≡ another)
+same_due family words text one other output another (inl d) (inl e) =
+    let same = one_command words e.command d.command e.spelled d.spelled in
+    let verdicts = same_comes family d.command text d.verdict e.verdict d.comes_to (subst (λ (c : Command). ComesTo family c text e.verdict) same e.comes_to) in
+    (d.status_is ∙ (ap verdict_status verdicts ∙ sym e.status_is), d.output_is ∙ (ap verdict_output verdicts ∙ sym e.output_is))
+same_due family words text one other output another (inl d) (inr (inl e)) = absurd (e.no_command d.command d.spelled)
+same_due family words text one other output another (inl d) (inr (inr (inl e))) =
+    absurd (comes_no_fails family d.command text d.verdict e.place d.comes_to (subst (λ (c : Command). FailsAt (IsInput c) text e.place) (one_command words e.command d.command e.spelled d.spelled) e.fails))
+same_due family words text one other output another (inl d) (inr (inr (inr e))) =
+    absurd (comes_no_part family d.command text d.verdict d.comes_to (subst (λ (c : Command). IsPart (IsInput c) text) (one_command words e.command d.command e.spelled d.spelled) e.part))
+same_due family words text one other output another (inr (inl d)) (inl e) = absurd (d.no_command e.command e.spelled)
+same_due family words text one other output another (inr (inl d)) (inr (inl e)) = (d.status_is ∙ sym e.status_is, d.output_is ∙ sym e.output_is)
+same_due family words text one other output another (inr (inl d)) (inr (inr (inl e))) = absurd (d.no_command e.command e.spelled)
+same_due family words text one other output another (inr (inl d)) (inr (inr (inr e))) = absurd (d.no_command e.command e.spelled)
+same_due family words text one other output another (inr (inr (inl d))) (inl e) =
+    absurd (comes_no_fails family e.command text e.verdict d.place e.comes_to (subst (λ (c : Command). FailsAt (IsInput c) text d.place) (one_command words d.command e.command d.spelled e.spelled) d.fails))
+same_due family words text one other output another (inr (inr (inl d))) (inr (inl e)) = absurd (e.no_command d.command d.spelled)
+same_due family words text one other output another (inr (inr (inl d))) (inr (inr (inl e))) =
+    let same = one_command words e.command d.command e.spelled d.spelled in
+    let places = one_place (IsInput d.command) text d.place e.place d.fails (subst (λ (c : Command). FailsAt (IsInput c) text e.place) same e.fails) in
+    (d.status_is ∙ sym e.status_is, d.output_is ∙ (ap (λ (place : ℕ). fault_line (codes "head") (place ∷ [])) places ∙ sym e.output_is))
+same_due family words text one other output another (inr (inr (inl d))) (inr (inr (inr e))) =
+    absurd (fails_no_part (IsInput d.command) text d.place d.fails (subst (λ (c : Command). IsPart (IsInput c) text) (one_command words e.command d.command e.spelled d.spelled) e.part))
+same_due family words text one other output another (inr (inr (inr d))) (inl e) =
+    absurd (comes_no_part family e.command text e.verdict e.comes_to (subst (λ (c : Command). IsPart (IsInput c) text) (one_command words d.command e.command d.spelled e.spelled) d.part))
+same_due family words text one other output another (inr (inr (inr d))) (inr (inl e)) = absurd (e.no_command d.command d.spelled)
+same_due family words text one other output another (inr (inr (inr d))) (inr (inr (inl e))) =
+    absurd (fails_no_part (IsInput e.command) text e.place e.fails (subst (λ (c : Command). IsPart (IsInput c) text) (one_command words d.command e.command d.spelled e.spelled) d.part))
+same_due family words text one other output another (inr (inr (inr d))) (inr (inr (inr e))) = (d.status_is ∙ sym e.status_is, d.output_is ∙ sym e.output_is)
+
+-- what a whole input comes to is there
+some_comes : (family : Family) (command : Command) (text input rest : List ℕ) → text ≡ input ++ rest → IsInput command input → ((v : Verdict) → ComesTo family command text v → ⊥) → ⊥
+some_comes family (Open suite budget) text input rest whole (seed, info, is) none =
+    some_by_key (parameters suite.set) family (kdf_algorithm suite.kdf) (aead_algorithm suite.aead) open_of seed info rest budget (λ v opens. none v (input, seed, info, rest, whole, is, opens))
+some_comes family (Key set) text input rest whole (seed, is) none = none (key_verdict (key_of (parameters set) family seed)) (input, seed, rest, whole, is, refl)
+
+some_of_command : (family : Family) (words : List (List ℕ)) (text : List ℕ) (command : Command) → Spells words command → Stands (IsInput command) text
+    → ((status : ℕ) (output : List ℕ) → Due family words text status output → ⊥) → ⊥
+some_of_command family words text command spelled (inl (input, rest, whole, is)) none =
+    some_comes family command text input rest whole is (λ v comes. none (verdict_status v) (verdict_output v) (inl (record {
+      command = command;
+      spelled = spelled;
+      verdict = v;
+      comes_to = comes;
+      status_is = refl;
+      output_is = refl;
+    })))
+some_of_command family words text command spelled (inr (inl (place, fails))) none =
+    none 3 (fault_line (codes "head") (place ∷ [])) (inr (inr (inl (record { command = command; spelled = spelled; place = place; fails = fails; status_is = refl; output_is = refl }))))
+some_of_command family words text command spelled (inr (inr part)) none =
+    none 3 (fault_line (codes "head ended") []) (inr (inr (inr (record { command = command; spelled = spelled; part = part; status_is = refl; output_is = refl }))))
+
+pub some_due : (family : Family) (words : List (List ℕ)) (text : List ℕ) → ((status : ℕ) (output : List ℕ) → Due family words text status output → ⊥) → ⊥
+some_due family words text none = none 2 no_command_line (inr (inl (record {
+  no_command = λ command spelled. some_of_command family words text command spelled (some_input command text) none;
   status_is = refl;
   output_is = refl;
 })))

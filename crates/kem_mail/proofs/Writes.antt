@@ -1,13 +1,13 @@
 -- One write after another.
-use Rattle.std.proofs.Common.{◌≡◌, ℕ, zero, suc, Bool, true, ◌+◌, ◌/◌, ◌%◌, List, [], ◌∷◌, ◌++◌, length, take, drop, get_or, Option, Some, None, refl, sym, ap, subst, ◌∙◌, append_assoc, arith}
-use Rattle.std.specs.Prelude.{◌==◌, IfSome, slice_get}
+use Rattle.std.proofs.Common.{◌≡◌, ℕ, zero, suc, Bool, true, ◌+◌, ◌/◌, ◌%◌, ◌<◌, List, [], ◌∷◌, ◌++◌, length, take, drop, get_or, Option, Some, None, refl, sym, ap, subst, ◌∙◌, append_assoc, arith}
+use Rattle.std.specs.Prelude.{◌==◌, IfSome, decimal, slice_get}
 use Rattle.std.proofs.lemmas.Bool.{eqb-true}
-use Rattle.std.proofs.lemmas.List.{append-nil, nil_from_length, take-append-drop}
+use Rattle.std.proofs.lemmas.List.{append-nil, nil_from_length, take-append-drop, take_more, drop_more}
 use Rattle.std.proofs.lemmas.List.Concat.{flat_map-append}
 use Rattle.std.proofs.lemmas.Option.{none-some}
 use Rattle.hex.specs.Hex.{encode_with, encode_lower, lower_digits}
 use Rattle.age_core.specs.Outside.{Gains, GainsPart}
-use Rattle.kem_mail.specs.Lines.{lines}
+use Rattle.kem_mail.specs.Lines.{lines, spaced}
 
 pub gains_then : (a b c : Option (List ℕ)) (x y : List ℕ) → Gains a b x → Gains b c y → Gains a c (x ++ y)
 gains_then None b c x y h k = tt
@@ -23,6 +23,11 @@ part_then (Some text) b c x y z h k =
 
 pub part_last : (a b c : Option (List ℕ)) (x y : List ℕ) → Gains a b x → GainsPart b c y → GainsPart a c (x ++ y)
 part_last a b c x y h k = subst (λ (t : List ℕ). GainsPart a c (x ++ t)) (append-nil y) (part_then a b c x y [] h k)
+
+-- a part of a front is a part of the whole
+pub part_front : (a c : Option (List ℕ)) (x z : List ℕ) → GainsPart a c x → GainsPart a c (x ++ z)
+part_front None c x z h = tt
+part_front (Some text) c x z h = (h.0, h.1 ++ z, ap (λ (t : List ℕ). t ++ z) h.2 ∙ append_assoc h.0 h.1 z, h.3)
 
 -- ---- digits
 
@@ -89,3 +94,16 @@ lines_split messages i message is =
 pub lines_more : (messages : List (List ℕ)) (i : ℕ) (message : List ℕ) → slice_get messages i ≡ Some message → lines (take (i + 1) messages) ≡ lines (take i messages) ++ (encode_lower message ++ 10 ∷ [])
 lines_more messages i message is =
     ap lines (take_get messages i message is) ∙ (flat_map-append (λ m. encode_lower m ++ 10 ∷ []) (take i messages) (message ∷ []) ∙ ap (λ (t : List ℕ). lines (take i messages) ++ t) (append-nil (encode_lower message ++ 10 ∷ [])))
+
+-- ---- numbers
+
+-- one number more
+pub spaced_more : (numbers : List ℕ) (i : ℕ) → i < length numbers → spaced (take (i + 1) numbers) ≡ spaced (take i numbers) ++ (32 ∷ decimal (get_or numbers i 0))
+spaced_more numbers i lt =
+    ap spaced (take_more numbers i 0 lt) ∙ (flat_map-append (λ n. 32 ∷ decimal n) (take i numbers) (get_or numbers i 0 ∷ []) ∙ ap (λ (t : List ℕ). spaced (take i numbers) ++ t) (append-nil (32 ∷ decimal (get_or numbers i 0))))
+
+-- the numbers, with the one at a place written out
+pub spaced_split : (numbers : List ℕ) (i : ℕ) → i < length numbers → spaced numbers ≡ spaced (take i numbers) ++ ((32 ∷ decimal (get_or numbers i 0)) ++ spaced (drop (i + 1) numbers))
+spaced_split numbers i lt =
+    ap spaced (sym (take-append-drop i numbers) ∙ ap (λ (t : List ℕ). take i numbers ++ t) (drop_more numbers i 0 lt))
+    ∙ flat_map-append (λ n. 32 ∷ decimal n) (take i numbers) (get_or numbers i 0 ∷ drop (i + 1) numbers)

@@ -1,12 +1,14 @@
 -- the words of a command
 pub mod Command
--- the head of an input
-pub mod Head
+-- the input of a command
+pub mod Input
 -- what a mail opens to
 pub mod Mail
--- messages as lines
+-- what a run writes
 pub mod Lines
 -- what a run owes
 pub mod Due
--- what the reading of bytes and lines gives: no public clause cites it
-pub mod Taking
+-- what was taken of a source
+pub mod Taken
+-- what private calls answer: no public clause cites it
+pub mod Parts

@@ -1,23 +1,45 @@
-//! Why a mail wasn't opened.
+//! Why a mail wasn't opened, and why a run wrote no items.
 
 ghost use Rattle.std.specs.Prelude.{◌≡◌};
+ghost use Rattle.kem_mail.specs.Parts.{of_phase, of_kem};
 ghost use Rattle.kem_mail.specs.declared.error.MailError.TheVariants.{NoMemory};
+ghost use Rattle.kem_mail.specs.declared.error.RunError.TheVariants.{Mail};
 
+use age_core::plugin::PhaseError;
+use ml_kem::KemError;
 use std::alloc::{AllocError, AllocFailed};
 use thiserror::Error;
 
-/// Why a mail wasn't opened.
+/// Why a mail wasn't opened. Of those behind `NoMemory` the first that applies is given.
 #[derive(Clone, Copy, Debug, PartialEq, Eq, Error)]
 pub enum MailError {
     /// Memory ran out.
     #[error("no memory")]
     NoMemory,
-    /// The source failed before a whole mail was read.
+    /// The seed gives no key: a sample of its matrix is none.
+    #[error("the seed gives no key")]
+    XofExhausted,
+    /// The source failed before a whole `done` was read.
     #[error("the source failed")]
     ReadFault,
-    /// The bytes are no mail.
-    #[error("the bytes are no mail")]
-    NotMail,
+    /// The bytes are no stanzas.
+    #[error("the bytes are no stanzas")]
+    InvalidData,
+    /// The source ended before a whole `done`.
+    #[error("the source ended before the mail did")]
+    UnexpectedEof,
+    /// The budget ended before a whole `done`.
+    #[error("the budget ended before the mail did")]
+    TooMuch,
+    /// So many stanzas are tagged `kem`, and not one.
+    #[error("{0} stanzas hold an encapsulated key")]
+    NotOneKem(u64),
+    /// The encapsulated key has another length: the expected and the given one.
+    #[error("an encapsulated key of {1} bytes, where {0} are due")]
+    IncorrectInputLength(usize, usize),
+    /// The sealed message of this number, from 0, doesn't open.
+    #[error("message {0} doesn't open")]
+    OpenError(u64),
 }
 
 impl From<AllocError> for MailError {
@@ -33,5 +55,65 @@ impl<T: Drop> From<AllocFailed<T>> for MailError {
 
     fn from(_e: AllocFailed<T>) -> MailError {
         MailError::NoMemory
+    }
+}
+
+impl From<PhaseError> for MailError {
+    ghost from_gives = { λ p e. e ≡ of_phase p };
+
+    fn from(e: PhaseError) -> MailError {
+        match e {
+            PhaseError::NoMemory => MailError::NoMemory,
+            PhaseError::ReadFault => MailError::ReadFault,
+            PhaseError::InvalidData => MailError::InvalidData,
+            PhaseError::UnexpectedEof => MailError::UnexpectedEof,
+            PhaseError::TooMuch => MailError::TooMuch,
+        }
+    }
+}
+
+impl From<KemError> for MailError {
+    ghost from_gives = { λ k e. e ≡ of_kem k };
+
+    fn from(e: KemError) -> MailError {
+        match e {
+            KemError::NoMemory => MailError::NoMemory,
+            KemError::XofExhausted => MailError::XofExhausted,
+        }
+    }
+}
+
+/// Why a run wrote no items.
+#[derive(Clone, Copy, Debug, PartialEq, Eq)]
+pub enum RunError {
+    /// The byte at this place of the input, from 0, can't stand there.
+    Place(u64),
+    /// The source ended inside the input.
+    Ended,
+    /// The mail wasn't opened, or the key wasn't made.
+    Mail(MailError),
+}
+
+impl From<MailError> for RunError {
+    ghost from_gives = { λ m e. e ≡ Mail m };
+
+    fn from(e: MailError) -> RunError {
+        RunError::Mail(e)
+    }
+}
+
+impl<T: Drop> From<AllocFailed<T>> for RunError {
+    ghost from_gives = { λ _ e. e ≡ Mail NoMemory };
+
+    fn from(_e: AllocFailed<T>) -> RunError {
+        RunError::Mail(MailError::NoMemory)
+    }
+}
+
+impl From<AllocError> for RunError {
+    ghost from_gives = { λ _ e. e ≡ Mail NoMemory };
+
+    fn from(_e: AllocError) -> RunError {
+        RunError::Mail(MailError::NoMemory)
     }
 }

@@ -1,16 +1,18 @@
-//! Mails of stanzas: opening them over any KEM, and the program that does it.
+//! Mails of stanzas: opening them over any KEM, and the program that does it over the lattice KEM.
 #![tactic(auto)]
 
+mod command;
 mod error;
-mod head;
+mod input;
 pub mod laws;
 mod lines;
 mod list;
+mod mail;
 mod open;
 mod run;
-mod taking;
 
 pub use error::MailError;
 pub use list::MessageList;
+pub use mail::open_mail;
 pub use open::open_with;
 pub use run::mail_main;

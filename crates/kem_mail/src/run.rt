@@ -1,39 +1,37 @@
 //! A run of the program.
 
-ghost use Rattle.std.specs.Prelude.{◌≡◌, ◌≤◌, ◌⊎◌, ◌↔◌, ℕ, List, [], map, IfOk, IfSome, IsErrOf, IsTrue};
+ghost use Rattle.std.specs.Prelude.{◌≡◌, ◌≤◌, ◌⊎◌, ◌∷◌, ℕ, List, [], map, IfSome, IsErrOf};
 ghost use Rattle.std.specs.String.{string_bytes};
 ghost use Rattle.age_core.specs.Outside.{Rose, Gains, GainsPart};
-ghost use Rattle.kem_mail.specs.Command.{IsOpen};
-ghost use Rattle.kem_mail.specs.Due.{Due, HoldsMail, IsAnswer, no_command_line, no_mail_line};
-ghost use Rattle.kem_mail.specs.Lines.{lines};
-ghost use Rattle.kem_mail.specs.Taking.{IsRefused, IsTold};
+ghost use Rattle.gcm_core.specs.Gcm.{open_of};
+ghost use Rattle.ml_kem.specs.Keys.{key_of};
+ghost use Rattle.kem_mail.specs.Command.{Spells, parameters, kdf_algorithm, aead_algorithm};
+ghost use Rattle.kem_mail.specs.Due.{Due, IsAnswer, key_verdict, no_command_line};
+ghost use Rattle.kem_mail.specs.Lines.{lines, fault_line};
+ghost use Rattle.kem_mail.specs.Mail.{Verdict};
+ghost use Rattle.kem_mail.specs.Taken.{Lost, RunTakes, FaultTakes};
+ghost use Rattle.kem_mail.specs.Parts.{IsErrorTold, IsOpened, IsRefused, IsTold, Judges, RunComes};
 
-use crate::error::MailError;
-use crate::head::next_head;
-use crate::lines::write_lines;
+use crate::command::{AeadName, Command, KdfName, SetName, SuiteName, command_of};
+use crate::error::{MailError, RunError};
+use crate::input::{Head, next_head, next_seed};
+use crate::lines::{write_fault_line, write_lines};
 use crate::list::MessageList;
-use crate::open::open_with;
-use age_core::outside::{Failed, Sink, Source, write_all};
-use hpke::{AesGcm256, Deserializable, HkdfSha256, MaskKem, MaskKey};
+use crate::mail::open_mail;
+use age_core::outside::{Failed, Sink, Source};
+use hpke::{AesGcm128, AesGcm256, HkdfSha256, HkdfSha384, HkdfSha512, Kdf};
+use kem_hash::KemHash;
+use ml_kem::{DecapsulationKey, MlKem512, MlKem768, MlKem1024, ParameterSet, Seed};
 use std::alloc::Global;
 
-/// The most bytes of a mail that are read.
-const BUDGET: u64 = 16_777_216;
-
-/// How many bytes of a seed are the key of the suite.
-const KEY_LEN: usize = 32;
-
-/// The words of the one command.
-const OPEN: [&str; 4] = ["open", "mask", "sha256", "aes256"];
-
-/// The status of a run that opened its mail and wrote the messages.
+/// The status of a run that did what its command says.
 const DONE: u8 = 0;
 
 /// The status of a run whose words spell no command.
 const NO_COMMAND: u8 = 2;
 
-/// The status of a run whose input is no head and mail.
-const NO_MAIL: u8 = 3;
+/// The status of a run whose input, mail or key is at fault.
+const REFUSED: u8 = 3;
 
 /// The status of a run whose source failed.
 const READ_FAULT: u8 = 4;
@@ -44,94 +42,196 @@ const WRITE_FAULT: u8 = 5;
 /// The status of a run that found no memory.
 const NO_MEMORY: u8 = 6;
 
-/// What is written where the words spell no command.
-const NO_COMMAND_LINE: &[u8; 8] = b"! words\n";
-
-/// What is written where the input is no head and mail.
-const NO_MAIL_LINE: &[u8; 10] = b"! NotMail\n";
-
-/// Whether the words spell the command that opens a mail.
-fn is_open(words: &[String]) -> bool
-    ensures { IsTrue result ↔ IsOpen (map string_bytes words.now) }
+/// Opens the mail behind a head, by a set, a KDF and an AEAD.
+fn open_aead<P: ParameterSet, H: KemHash, D: Kdf, S: Source>(
+    alloc: Global,
+    aead: AeadName,
+    head: &Head,
+    src: &mut S,
+    budget: u64,
+) -> Result<MessageList, MailError>
+    ensures opened { IsOpened P.set H.family D.kdf (aead_algorithm aead) open_of head.now.seed head.now.info.items budget
+        (S.left src.old) (S.left src.new) (Rose (S.faults src.old) (S.faults src.new)) result }
+    ensures faults { S.faults src.old ≤ S.faults src.new }
 {
-    match words {
-        [command, set, kdf, aead] => {
-            command.as_str() == "open"
-                && set.as_str() == "mask"
-                && kdf.as_str() == "sha256"
-                && aead.as_str() == "aes256"
+    match aead {
+        AeadName::Aes128 => {
+            open_mail::<P, H, D, AesGcm128, S>(alloc, &head.seed, &head.info, src, budget)
         }
-        _ => false,
+        AeadName::Aes256 => {
+            open_mail::<P, H, D, AesGcm256, S>(alloc, &head.seed, &head.info, src, budget)
+        }
     }
 }
 
-/// Opens the mail behind the head of a source.
-fn open_source<S: Source>(alloc: Global, src: &mut S) -> Result<MessageList, MailError>
-    ensures plain { IfOk result (λ messages. IfSome (S.left src.old) (λ text. HoldsMail text messages)) }
-    ensures not_mail { IsErrOf result MailError.NotMail → IfSome (S.left src.old) (λ text.
-        (messages : List (List ℕ)) → HoldsMail text messages → ⊥) }
-    ensures read_fault { IsErrOf result MailError.ReadFault → Rose (S.faults src.old) (S.faults src.new) }
+/// The same by the names of the KDF and the AEAD.
+fn open_kdf<P: ParameterSet, H: KemHash, S: Source>(
+    alloc: Global,
+    kdf: KdfName,
+    aead: AeadName,
+    head: &Head,
+    src: &mut S,
+    budget: u64,
+) -> Result<MessageList, MailError>
+    ensures opened { IsOpened P.set H.family (kdf_algorithm kdf) (aead_algorithm aead) open_of head.now.seed head.now.info.items budget
+        (S.left src.old) (S.left src.new) (Rose (S.faults src.old) (S.faults src.new)) result }
     ensures faults { S.faults src.old ≤ S.faults src.new }
 {
-    let Some(head) = next_head(alloc, src)? else {
-        return Err(MailError::NotMail);
-    };
-    let Ok(key) = MaskKey::from_bytes(alloc, &head.seed[..KEY_LEN]) else {
-        return Err(MailError::NoMemory);
-    };
-    open_with::<MaskKem, HkdfSha256, AesGcm256, S>(alloc, &key, &head.info, src, BUDGET)
+    match kdf {
+        KdfName::Sha256 => open_aead::<P, H, HkdfSha256, S>(alloc, aead, head, src, budget),
+        KdfName::Sha384 => open_aead::<P, H, HkdfSha384, S>(alloc, aead, head, src, budget),
+        KdfName::Sha512 => open_aead::<P, H, HkdfSha512, S>(alloc, aead, head, src, budget),
+    }
 }
 
-/// Writes a line that is due, and answers the status of the run: the given one, or that of a sink
-/// that failed.
-fn tell<W: Sink>(out: &mut W, line: &[u8], status: u8) -> u8
-    ensures told { IsTold result status (W.faults out.old) (W.faults out.new) (W.got out.old) (W.got out.new) line.now }
+/// The same by the name of a suite.
+fn open_suite<H: KemHash, S: Source>(
+    alloc: Global,
+    suite: SuiteName,
+    head: &Head,
+    src: &mut S,
+    budget: u64,
+) -> Result<MessageList, MailError>
+    ensures opened { IsOpened (parameters suite.set) H.family (kdf_algorithm suite.kdf) (aead_algorithm suite.aead) open_of head.now.seed head.now.info.items budget
+        (S.left src.old) (S.left src.new) (Rose (S.faults src.old) (S.faults src.new)) result }
+    ensures faults { S.faults src.old ≤ S.faults src.new }
+{
+    let (kdf, aead) = (suite.kdf, suite.aead);
+    match suite.set {
+        SetName::Set512 => open_kdf::<MlKem512, H, S>(alloc, kdf, aead, head, src, budget),
+        SetName::Set768 => open_kdf::<MlKem768, H, S>(alloc, kdf, aead, head, src, budget),
+        SetName::Set1024 => open_kdf::<MlKem1024, H, S>(alloc, kdf, aead, head, src, budget),
+    }
+}
+
+/// The encapsulation key of a seed.
+fn public_key<P: ParameterSet, H: KemHash>(alloc: Global, seed: &Seed) -> Result<Vec<u8>, MailError>
+    ensures { Judges (λ bytes. bytes.items ∷ []) result (key_verdict (key_of P.set H.family seed.now)) }
+{
+    let key = DecapsulationKey::<P, H>::from_seed(alloc, seed)?;
+    let bytes = key.encapsulation_key().to_bytes()?;
+    Ok(bytes)
+}
+
+/// The same by the name of a set.
+fn public_key_of<H: KemHash>(alloc: Global, set: SetName, seed: &Seed) -> Result<Vec<u8>, MailError>
+    ensures { Judges (λ bytes. bytes.items ∷ []) result (key_verdict (key_of (parameters set) H.family seed.now)) }
+{
+    match set {
+        SetName::Set512 => public_key::<MlKem512, H>(alloc, seed),
+        SetName::Set768 => public_key::<MlKem768, H>(alloc, seed),
+        SetName::Set1024 => public_key::<MlKem1024, H>(alloc, seed),
+    }
+}
+
+/// What a command comes to: the items that it writes.
+fn items_of<H: KemHash, S: Source>(
+    alloc: Global,
+    command: Command,
+    src: &mut S,
+) -> Result<MessageList, RunError>
+    ensures comes_to { IfSome (S.left src.old) (λ text. RunComes H.family command text result) }
+    ensures read_fault { IsErrOf result (RunError.Mail MailError.ReadFault) → Rose (S.faults src.old) (S.faults src.new) }
+    ensures read_part { IsErrOf result (RunError.Mail MailError.ReadFault)
+        → Lost (S.left src.old) (S.left src.new) (FaultTakes H.family command) }
+    ensures taken { Lost (S.left src.old) (S.left src.new) (RunTakes command) }
+    ensures faults { S.faults src.old ≤ S.faults src.new }
+{
+    match command {
+        Command::Open(suite, budget) => {
+            let head = next_head(alloc, src)?;
+            let messages = open_suite::<H, S>(alloc, suite, &head, src, budget)?;
+            Ok(messages)
+        }
+        Command::Key(set) => {
+            let seed = next_seed(alloc, src)?;
+            let key = public_key_of::<H>(alloc, set, &seed)?;
+            let mut items = MessageList::new(alloc);
+            items.push(key)?;
+            Ok(items)
+        }
+    }
+}
+
+/// Writes the line of a fault, and answers the status of the run: the given one, or that of a sink that
+/// failed.
+fn tell<W: Sink>(out: &mut W, name: &[u8], numbers: &[u64], status: u8) -> u8
+    ensures told { IsTold result status (W.faults out.old) (W.faults out.new) (W.got out.old) (W.got out.new) (fault_line name.now numbers.now) }
     ensures plan { W.plan out.new ≡ W.plan out.old }
     ensures faults { W.faults out.old ≤ W.faults out.new }
 {
-    match write_all(out, line) {
+    match write_fault_line(out, name, numbers) {
         Ok(()) => status,
         Err(Failed) => WRITE_FAULT,
     }
 }
 
-/// Writes the messages of an opened mail, and answers the status of the run.
-fn tell_messages<W: Sink>(out: &mut W, messages: &MessageList) -> u8
-    ensures told { IsTold result 0 (W.faults out.old) (W.faults out.new) (W.got out.old) (W.got out.new) (lines messages.now) }
+/// Writes the items of a command, and answers the status of the run.
+fn tell_items<W: Sink>(out: &mut W, items: &MessageList) -> u8
+    ensures told { IsTold result 0 (W.faults out.old) (W.faults out.new) (W.got out.old) (W.got out.new) (lines items.now) }
     ensures plan { W.plan out.new ≡ W.plan out.old }
     ensures faults { W.faults out.old ≤ W.faults out.new }
 {
-    match write_lines(out, messages) {
+    match write_lines(out, items) {
         Ok(()) => DONE,
         Err(Failed) => WRITE_FAULT,
     }
 }
 
-/// Answers the status of a run whose mail wasn't opened, and writes the line that is due for it.
-fn refuse<W: Sink>(out: &mut W, error: MailError) -> u8
-    ensures refused { IsRefused error result (W.faults out.old) (W.faults out.new) (W.got out.old) (W.got out.new) }
+/// Writes the line of what is wrong with a mail, and answers the status of the run.
+fn tell_error<W: Sink>(out: &mut W, error: MailError) -> u8
+    ensures told { IsErrorTold error result (W.faults out.old) (W.faults out.new) (W.got out.old) (W.got out.new) }
     ensures plan { W.plan out.new ≡ W.plan out.old }
     ensures faults { W.faults out.old ≤ W.faults out.new }
 {
     match error {
-        MailError::NotMail => tell(out, NO_MAIL_LINE, NO_MAIL),
-        MailError::ReadFault => READ_FAULT,
         MailError::NoMemory => NO_MEMORY,
+        MailError::ReadFault => READ_FAULT,
+        MailError::XofExhausted => tell(out, b"XofExhausted", &[], REFUSED),
+        MailError::InvalidData => tell(out, b"InvalidData", &[], REFUSED),
+        MailError::UnexpectedEof => tell(out, b"UnexpectedEof", &[], REFUSED),
+        MailError::TooMuch => tell(out, b"TooMuch", &[], REFUSED),
+        MailError::NotOneKem(count) => tell(out, b"NotOneKem", &[count], REFUSED),
+        MailError::IncorrectInputLength(expected, given) => tell(
+            out,
+            b"IncorrectInputLength",
+            &[expected as u64, given as u64],
+            REFUSED,
+        ),
+        MailError::OpenError(number) => tell(out, b"OpenError", &[number], REFUSED),
     }
 }
 
-/// Runs the program: opens the mail on the source, if the words ask for it, and writes its messages
-/// to the sink, one line of lower-case hexadecimal digits each. The answer is the status.
+/// Answers the status of a run that wrote no items, and writes the line that is due for it.
+fn refuse<W: Sink>(out: &mut W, error: RunError) -> u8
+    ensures told { IsRefused error result (W.faults out.old) (W.faults out.new) (W.got out.old) (W.got out.new) }
+    ensures plan { W.plan out.new ≡ W.plan out.old }
+    ensures faults { W.faults out.old ≤ W.faults out.new }
+{
+    match error {
+        RunError::Place(place) => tell(out, b"head", &[place], REFUSED),
+        RunError::Ended => tell(out, b"head ended", &[], REFUSED),
+        RunError::Mail(error) => tell_error(out, error),
+    }
+}
+
+/// Runs the program: does what its words say over a source, and writes to a sink. The answer is the status.
 ///
-/// The words are `open mask sha256 aes256`. The source begins with a head: 128 hexadecimal digits,
-/// the seed, whose first 32 bytes are the private key; a line feed; an even number of digits up to
-/// 8192, the info; a line feed. A mail follows, of which 16777216 bytes are read at most.
+/// The words are one of these, where SET is `512`, `768` or `1024`, KDF is `sha256`, `sha384` or `sha512`,
+/// AEAD is `aes128` or `aes256`, and BUDGET is a decimal number from 1 to 16777216:
 ///
-/// Status 0: the messages were written. 2: the words are others, and `! words` was written. 3: the
-/// source holds no head and mail, and `! NotMail` was written. 4: the source failed, and nothing was
-/// written. 5: the sink failed, and a part of what is due was written. 6: memory ran out, and nothing
-/// was written.
-pub fn mail_main<S: Source, W: Sink>(
+/// - `open SET KDF AEAD BUDGET`. The source begins with a head: 128 hexadecimal digits, the seed; a line
+///   feed; an even number of digits up to 8192, the info; a line feed. A mail follows, of which BUDGET bytes
+///   are read at most. Its messages are written, one line of lower-case digits each.
+/// - `key SET`. The source begins with 128 hexadecimal digits, the seed, and a line feed. The encapsulation
+///   key of the seed is written in lower-case digits, with a line feed.
+///
+/// Status 0: that was written. 2: the words are others, and `! words` was written. 3: the input, the key or
+/// the mail is at fault, and the line of the fault was written: `! head PLACE` for the byte at a place, from
+/// 0, that can't stand there, `! head ended`, or the name of a [`MailError`] with its numbers. 4: the source
+/// failed, and nothing was written. 5: the sink failed, and a front of what is due was written. 6: memory ran
+/// out, and nothing was written.
+pub fn mail_main<H: KemHash, S: Source, W: Sink>(
     alloc: Global,
     words: &[String],
     src: &mut S,
@@ -139,44 +239,46 @@ pub fn mail_main<S: Source, W: Sink>(
 ) -> u8
     // What was written is what is due.
     ensures answered { IfSome (S.left src.old) (λ text. IsAnswer result → (output : List ℕ)
-        × Due (map string_bytes words.now) text result output × Gains (W.got out.old) (W.got out.new) output) }
+        × Due H.family (map string_bytes words.now) text result output × Gains (W.got out.old) (W.got out.new) output) }
 
-    // A fault of the source, and nothing written.
+    // A fault of the source, and nothing written; and what was taken before it.
     ensures read_fault { result ≡ 4 → Rose (S.faults src.old) (S.faults src.new) × Gains (W.got out.old) (W.got out.new) [] }
+    ensures read_part { result ≡ 4 → (command : Command) × Spells (map string_bytes words.now) command
+        × Lost (S.left src.old) (S.left src.new) (FaultTakes H.family command) }
 
-    // A fault of the sink, and a part of what is due.
+    // A fault of the sink, and a front of what is due.
     ensures write_fault { result ≡ 5 → Rose (W.faults out.old) (W.faults out.new) }
     ensures write_part { IfSome (S.left src.old) (λ text. result ≡ 5 → (status : ℕ) × (output : List ℕ)
-        × Due (map string_bytes words.now) text status output × GainsPart (W.got out.old) (W.got out.new) output) }
-
-    // The lines of statuses 2 and 3 are fixed, whatever the source tells.
-    ensures command_line { result ≡ 2 → Gains (W.got out.old) (W.got out.new) no_command_line }
-    ensures mail_line { result ≡ 3 → Gains (W.got out.old) (W.got out.new) no_mail_line }
+        × Due H.family (map string_bytes words.now) text status output × GainsPart (W.got out.old) (W.got out.new) output) }
 
     // Want of memory, and nothing written.
     ensures memory { result ≡ 6 → Gains (W.got out.old) (W.got out.new) [] }
 
-    // The words alone decide on status 2, whatever the source tells, and then nothing is read.
-    ensures command { result ≡ 2 → IsOpen (map string_bytes words.now) → ⊥ }
-    ensures no_command { (IsOpen (map string_bytes words.now) → ⊥) → (result ≡ 2) ⊎ (result ≡ 5) }
+    // The words alone decide on status 2 and its line, whatever the source tells, and then nothing is read.
+    ensures command { result ≡ 2 → (command : Command) → Spells (map string_bytes words.now) command → ⊥ }
+    ensures no_command { ((command : Command) → Spells (map string_bytes words.now) command → ⊥) → (result ≡ 2) ⊎ (result ≡ 5) }
+    ensures command_line { result ≡ 2 → Gains (W.got out.old) (W.got out.new) no_command_line }
+    ensures unread { ((command : Command) → Spells (map string_bytes words.now) command → ⊥) → src.new ≡ src.old }
 
-    ensures unread { (IsOpen (map string_bytes words.now) → ⊥) → src.new ≡ src.old }
+    // What is due comes, where neither source nor sink fails, unless memory runs out.
+    ensures complete { IfSome (S.left src.old) (λ text. (status : ℕ) (output : List ℕ)
+        → Due H.family (map string_bytes words.now) text status output → (Rose (S.faults src.old) (S.faults src.new) → ⊥)
+        → (Rose (W.faults out.old) (W.faults out.new) → ⊥) → (result ≡ status) ⊎ (result ≡ 6)) }
 
-    // A head and a mail, with no fault, are opened, unless memory runs out.
-    ensures complete { IfSome (S.left src.old) (λ text. (messages : List (List ℕ)) → IsOpen (map string_bytes words.now)
-        → HoldsMail text messages → (Rose (S.faults src.old) (S.faults src.new) → ⊥)
-        → (Rose (W.faults out.old) (W.faults out.new) → ⊥) → (result ≡ 0) ⊎ (result ≡ 6)) }
+    // What was taken: nothing behind the byte that decides on the input, and of a mail at most the budget.
+    ensures taken { (command : Command) → Spells (map string_bytes words.now) command
+        → Lost (S.left src.old) (S.left src.new) (RunTakes command) }
 
     ensures no_other { IsAnswer result ⊎ ((result ≡ 4) ⊎ ((result ≡ 5) ⊎ (result ≡ 6))) }
     ensures source_faults { S.faults src.old ≤ S.faults src.new }
     ensures sink_faults { W.faults out.old ≤ W.faults out.new }
     ensures plan { W.plan out.new ≡ W.plan out.old }
 {
-    if !is_open(words) {
-        return tell(out, NO_COMMAND_LINE, NO_COMMAND);
-    }
-    match open_source(alloc, src) {
-        Ok(messages) => tell_messages(out, &messages),
+    let Some(command) = command_of(words) else {
+        return tell(out, b"words", &[], NO_COMMAND);
+    };
+    match items_of::<H, S>(alloc, command, src) {
+        Ok(items) => tell_items(out, &items),
         Err(error) => refuse(out, error),
     }
 }

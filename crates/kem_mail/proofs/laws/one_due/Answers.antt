@@ -2,7 +2,7 @@ use Rattle.kem_mail.proofs.Dues.{same_due}
 use Rattle.kem_mail.proofs.laws.one_due.Goals as goal
 
 pub returns-clause-status : goal.returns-clause-status
-returns-clause-status c words text one other output another d e = (same_due words text one other output another d e).0
+returns-clause-status c = λ family words text one other output another d e. (same_due family words text one other output another d e).0
 
 pub returns-clause-output : goal.returns-clause-output
-returns-clause-output c words text one other output another d e = (same_due words text one other output another d e).1
+returns-clause-output c = λ family words text one other output another d e. (same_due family words text one other output another d e).1

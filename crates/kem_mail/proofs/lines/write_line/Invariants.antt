@@ -8,7 +8,7 @@ abbrev pub invariant-loop-rest : goal.invariant-loop-rest
 invariant-loop-rest g l =
     let sink = g.W.Sink in
     record {
-      gained : (written : List ℕ) × (encode_lower l.message ≡ written ++ encode_lower l.rest) × Gains (sink.got l.fn.out) (sink.got l.out) written;
+      gained : (written : List ℕ) × (encode_lower l.item ≡ written ++ encode_lower l.rest) × Gains (sink.got l.fn.out) (sink.got l.out) written;
       plan : sink.plan l.out ≡ sink.plan l.fn.out;
       faults : sink.faults l.fn.out ≤ sink.faults l.out;
     }

@@ -8,7 +8,7 @@ abbrev pub invariant-loop-i : goal.invariant-loop-i
 invariant-loop-i g l =
     let sink = g.W.Sink in
     record {
-      gained : Gains (sink.got l.fn.out) (sink.got l.out) (lines (take l.i l.messages));
+      gained : Gains (sink.got l.fn.out) (sink.got l.out) (lines (take l.i l.items));
       plan : sink.plan l.out ≡ sink.plan l.fn.out;
       faults : sink.faults l.fn.out ≤ sink.faults l.out;
     }

@@ -1,42 +1,61 @@
-use Rattle.std.proofs.Common.{List, ℕ, map, subst}
-use Rattle.std.proofs.lemmas.List.{take-map}
+use Rattle.std.proofs.Common.{ℕ, List, map, ap, None, Err, Vec, Global}
+use Rattle.std.proofs.lemmas.Result.{err_from_is_err_and}
+use Rattle.age_core.specs.Outside.{Rose}
 use Rattle.age_core.specs.Stanza.{stanza_of}
-use Rattle.age_core.specs.Reading.{Splits, NoneDone}
-use Rattle.kem_mail.proofs.Opening.{plain_judged, told_refused, told_no_done}
-use Rattle.kem_mail.specs.Taking.{EndsAt}
+use Rattle.age_core.specs.Reading.{Before_done}
+use Rattle.age_core.specs.declared.format.Stanza.{Stanza as HeldStanza}
+use Rattle.hpke.specs.Schedule.{suite_of}
+use Rattle.kem_mail.specs.Mail.{Opener, opener_of, judged}
+use Rattle.kem_mail.specs.Parts.{Judges}
+use Rattle.kem_mail.proofs.Verdicts.{refused_opens, refused_complete, done_opens, done_complete, done_no_fault, done_not_ended, done_taken}
 use Rattle.kem_mail.proofs.open.open_with.Goals as goal
 
-pub returns-in-End-clause-not_mail : goal.returns-in-End-clause-not_mail
-returns-in-End-clause-not_mail g c = λ _.
-    let bytes = c.in_ok-held.held.bytes.items in
-    let stanzas = map stanza_of c.in_ok-stanzas.stanzas.items in
-    let split = c.in_ok-stanzas.ensures in
-    let splits : Splits bytes stanzas split.0 = subst (λ (t : List ℕ). Splits t stanzas split.0) c.deref.ensures.value split.1 in
-    let none : NoneDone stanzas = rw c.deref-2.ensures.value at c.in_default.ensures.none in
-    told_no_done c.one_first_done.ensures.one c.one_first_done.ensures.or_none (g.S.Source.left c.args.src.now) c.args.budget _ bytes split.0 stanzas
-    (c.in_ok-held.ensures.whole c.in-End.is) splits none
+pub returns-in_err-stanzas-clause-verdict : goal.returns-in_err-stanzas-clause-verdict
+returns-in_err-stanzas-clause-verdict g c =
+    let opener : Opener = opener_of (suite_of g.K.Kem.KEM_ID g.D.Kdf.kdf g.A.Aead.aead) c.args.info.now g.K.EncappedKey.Serializable.wire_size (g.K.Kem.decap_of (g.K.PrivateKey.Serializable.bytes c.args.sk.now) None) g.A.AeadImpl.BaseAead.open_of in
+    let p = err_from_is_err_and c.from_residual.result c.from_residual.ensures.1 in
+    rw (p.1, p.2) (refused_opens (λ (v : Vec HeldStanza Global). map stanza_of v.items) opener (g.S.Source.left c.args.src.now) c.args.budget c.in_err-stanzas.field-0.0 c.in_err-stanzas.ensures.read)
 
-pub returns-clause-plain : goal.returns-clause-plain
-returns-clause-plain g c =
-    let bytes = c.in_ok-held.held.bytes.items in
-    let stanzas = map stanza_of c.in_ok-stanzas.stanzas.items in
-    let split = c.in_ok-stanzas.ensures in
-    let splits : Splits bytes stanzas split.0 = subst (λ (t : List ℕ). Splits t stanzas split.0) c.deref.ensures.value split.1 in
-    let ends : EndsAt stanzas c.in-Some.done = rw c.deref-2.ensures.value at c.in-Some.ensures.found in
-    let front = take-map stanza_of c.in-Some.done c.in_ok-stanzas.stanzas.items in
-    let judges = rw c.deref-3.ensures.value at c.judge.ensures in
-    plain_judged c.judge.result (g.S.Source.left c.args.src.now) (g.S.Source.left c.read_within.new.src) c.args.budget _ bytes split.0 stanzas c.in-Some.done
-    c.in_ok-held.ensures.front splits ends (rw front judges)
+pub returns-in_err-stanzas-clause-complete : goal.returns-in_err-stanzas-clause-complete
+returns-in_err-stanzas-clause-complete g c =
+    let opener : Opener = opener_of (suite_of g.K.Kem.KEM_ID g.D.Kdf.kdf g.A.Aead.aead) c.args.info.now g.K.EncappedKey.Serializable.wire_size (g.K.Kem.decap_of (g.K.PrivateKey.Serializable.bytes c.args.sk.now) None) g.A.AeadImpl.BaseAead.open_of in
+    let faults = g.S.Source.faults in
+    let p = err_from_is_err_and c.from_residual.result c.from_residual.ensures.1 in
+    rw (p.1, p.2) (refused_complete (λ (v : Vec HeldStanza Global). map stanza_of v.items) opener (Rose (faults c.args.src.now) (faults c.stanzas_before_done.new.src)) (g.S.Source.left c.args.src.now) c.args.budget c.in_err-stanzas.field-0.0 c.in_err-stanzas.ensures.read
+    (λ e. c.in_err-stanzas.ensures.read_fault (ap Err e)))
 
-pub returns-clause-not_mail : goal.returns-clause-not_mail
-returns-clause-not_mail g c = λ e.
-    let bytes = c.in_ok-held.held.bytes.items in
+pub returns-clause-verdict : goal.returns-clause-verdict
+returns-clause-verdict g c =
+    let opener : Opener = opener_of (suite_of g.K.Kem.KEM_ID g.D.Kdf.kdf g.A.Aead.aead) c.args.info.now g.K.EncappedKey.Serializable.wire_size (g.K.Kem.decap_of (g.K.PrivateKey.Serializable.bytes c.args.sk.now) None) g.A.AeadImpl.BaseAead.open_of in
     let stanzas = map stanza_of c.in_ok-stanzas.stanzas.items in
-    let split = c.in_ok-stanzas.ensures in
-    let splits : Splits bytes stanzas split.0 = subst (λ (t : List ℕ). Splits t stanzas split.0) c.deref.ensures.value split.1 in
-    let ends : EndsAt stanzas c.in-Some.done = rw c.deref-2.ensures.value at c.in-Some.ensures.found in
-    let front = take-map stanza_of c.in-Some.done c.in_ok-stanzas.stanzas.items in
-    let judges = rw c.deref-3.ensures.value at c.judge.ensures in
-    let refused = rw e at judges in
-    told_refused c.one_first_done.ensures.one c.one_first_done.ensures.or_none (g.S.Source.left c.args.src.now) (g.S.Source.left c.read_within.new.src) c.args.budget _
-    bytes split.0 stanzas c.in-Some.done c.in_ok-held.ensures.front splits ends (rw front refused)
+    let judges : Judges (λ (m : List (List ℕ)). m) c.judge.result (judged opener (Before_done stanzas)) = rw c.deref.ensures.value at c.judge.ensures.judged in
+    done_opens opener stanzas c.judge.result judges (g.S.Source.left c.args.src.now) c.args.budget c.in_ok-stanzas.ensures.read
+
+pub returns-clause-complete : goal.returns-clause-complete
+returns-clause-complete g c =
+    let opener : Opener = opener_of (suite_of g.K.Kem.KEM_ID g.D.Kdf.kdf g.A.Aead.aead) c.args.info.now g.K.EncappedKey.Serializable.wire_size (g.K.Kem.decap_of (g.K.PrivateKey.Serializable.bytes c.args.sk.now) None) g.A.AeadImpl.BaseAead.open_of in
+    let stanzas = map stanza_of c.in_ok-stanzas.stanzas.items in
+    let judges : Judges (λ (m : List (List ℕ)). m) c.judge.result (judged opener (Before_done stanzas)) = rw c.deref.ensures.value at c.judge.ensures.judged in
+    let faults = g.S.Source.faults in
+    done_complete opener stanzas c.judge.result judges (Rose (faults c.args.src.now) (faults c.stanzas_before_done.new.src)) (g.S.Source.left c.args.src.now) c.args.budget c.in_ok-stanzas.ensures.read
+
+pub returns-clause-read_fault : goal.returns-clause-read_fault
+returns-clause-read_fault g c = λ e.
+    let opener : Opener = opener_of (suite_of g.K.Kem.KEM_ID g.D.Kdf.kdf g.A.Aead.aead) c.args.info.now g.K.EncappedKey.Serializable.wire_size (g.K.Kem.decap_of (g.K.PrivateKey.Serializable.bytes c.args.sk.now) None) g.A.AeadImpl.BaseAead.open_of in
+    let stanzas = map stanza_of c.in_ok-stanzas.stanzas.items in
+    let judges : Judges (λ (m : List (List ℕ)). m) c.judge.result (judged opener (Before_done stanzas)) = rw c.deref.ensures.value at c.judge.ensures.judged in
+    absurd (done_no_fault opener stanzas c.judge.result judges e)
+
+pub returns-clause-taken : goal.returns-clause-taken
+returns-clause-taken g c =
+    let opener : Opener = opener_of (suite_of g.K.Kem.KEM_ID g.D.Kdf.kdf g.A.Aead.aead) c.args.info.now g.K.EncappedKey.Serializable.wire_size (g.K.Kem.decap_of (g.K.PrivateKey.Serializable.bytes c.args.sk.now) None) g.A.AeadImpl.BaseAead.open_of in
+    let stanzas = map stanza_of c.in_ok-stanzas.stanzas.items in
+    let judges : Judges (λ (m : List (List ℕ)). m) c.judge.result (judged opener (Before_done stanzas)) = rw c.deref.ensures.value at c.judge.ensures.judged in
+    done_taken opener stanzas c.judge.result judges c.judge.ensures.has_key (g.S.Source.left c.args.src.now) (g.S.Source.left c.stanzas_before_done.new.src) c.args.budget c.in_ok-stanzas.stanzas c.in_ok-stanzas.ensures.taken
+
+pub returns-clause-ended : goal.returns-clause-ended
+returns-clause-ended g c = λ e.
+    let opener : Opener = opener_of (suite_of g.K.Kem.KEM_ID g.D.Kdf.kdf g.A.Aead.aead) c.args.info.now g.K.EncappedKey.Serializable.wire_size (g.K.Kem.decap_of (g.K.PrivateKey.Serializable.bytes c.args.sk.now) None) g.A.AeadImpl.BaseAead.open_of in
+    let stanzas = map stanza_of c.in_ok-stanzas.stanzas.items in
+    let judges : Judges (λ (m : List (List ℕ)). m) c.judge.result (judged opener (Before_done stanzas)) = rw c.deref.ensures.value at c.judge.ensures.judged in
+    absurd (done_not_ended opener stanzas c.judge.result judges e)

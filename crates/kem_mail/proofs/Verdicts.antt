@@ -1,0 +1,254 @@
+-- What a mail comes to.
+use Rattle.std.proofs.Common.{◌≡◌, ◌≢◌, ℕ, ◌+◌, true, List, [], ◌∷◌, length, Option, Some, None, refl, sym, ap, subst, ◌∙◌, ◌⊎◌, inl, inr, arith}
+use Rattle.std.specs.Prelude.{◌==◌, if◌then◌else◌, Bool, false, IfSome, Ok, Err, codes}
+use Rattle.age_core.specs.Stanza.{Stanza}
+use Rattle.age_core.specs.Reading.{Reading, Reads, Before_done, Invalid_data, Unexpected_eof, Too_much}
+use Rattle.age_core.specs.declared.plugin.PhaseError.{PhaseError}
+use Rattle.age_core.specs.declared.plugin.PhaseError.TheVariants.{NoMemory as PhaseNoMemory, ReadFault as PhaseReadFault, InvalidData as PhaseInvalidData, UnexpectedEof as PhaseUnexpectedEof, TooMuch as PhaseTooMuch}
+use Rattle.age_core.proofs.Readings.{same_reading, some_reading}
+use Rattle.hpke.specs.Schedule.{Context}
+use Rattle.kem_mail.specs.Mail.{Verdict, IsVerdict, Opener, Opens, bodies, with_first, open_at, opened, opened_with, judged_bodies, judged}
+use Rattle.kem_mail.specs.Taken.{Lost, HoldsDone, StoppedBy, IsTaken}
+use Rattle.kem_mail.specs.Parts.{IsRead, Judges, ReadTaken, of_phase}
+use Rattle.kem_mail.specs.declared.error.MailError.{MailError}
+use Rattle.kem_mail.specs.declared.error.MailError.TheVariants.{NoMemory, ReadFault, XofExhausted, InvalidData, UnexpectedEof, TooMuch, NotOneKem, IncorrectInputLength, OpenError}
+
+-- ---- what bodies come to
+
+-- what bodies come to where there is a context
+abbrev pub IsJudged : Verdict → Type 0
+IsJudged (Ok messages) = Unit {0}
+IsJudged (Err NoMemory) = ⊥
+IsJudged (Err ReadFault) = ⊥
+IsJudged (Err XofExhausted) = ⊥
+IsJudged (Err InvalidData) = ⊥
+IsJudged (Err UnexpectedEof) = ⊥
+IsJudged (Err TooMuch) = ⊥
+IsJudged (Err (NotOneKem count)) = Unit {0}
+IsJudged (Err (IncorrectInputLength expected given)) = Unit {0}
+IsJudged (Err (OpenError number)) = Unit {0}
+
+judged_first : (text : List ℕ) (v : Verdict) → IsJudged v → IsJudged (with_first text v)
+judged_first text (Ok texts) h = tt
+judged_first text (Err error) h = h
+
+opened_judged_as : (meaning : ℕ → List ℕ → Option (List ℕ)) (number : ℕ) (first : List ℕ) (o : Option (List ℕ)) (v : Verdict) → IsJudged v
+    → IsJudged (elim o [ None ↦ Err (OpenError number) | Some text ↦ with_first text v ])
+opened_judged_as meaning number first None v h = tt
+opened_judged_as meaning number first (Some text) v h = judged_first text v h
+
+pub opened_judged : (meaning : ℕ → List ℕ → Option (List ℕ)) (number : ℕ) (sealed : List (List ℕ)) → IsJudged (opened meaning number sealed)
+opened_judged meaning number [] = tt
+opened_judged meaning number (first ∷ others) = opened_judged_as meaning number first (meaning number first) (opened meaning (number + 1) others) (opened_judged meaning (number + 1) others)
+
+-- what bodies come to, with a context or without
+abbrev pub IsJudgedOr : Verdict → Type 0
+IsJudgedOr v = IsJudged v ⊎ (v ≡ Err XofExhausted)
+
+with_judged : (opener : Opener) (o : Option Context) (sealed : List (List ℕ)) → IsJudgedOr (opened_with opener o sealed)
+with_judged opener None sealed = inr refl
+with_judged opener (Some context) sealed = inl (opened_judged (open_at opener.open_of context) 0 sealed)
+
+sized_judged : (sized : Bool) (v : Verdict) (expected given : ℕ) → IsJudgedOr v → IsJudgedOr (if sized then v else Err (IncorrectInputLength expected given))
+sized_judged true v expected given h = h
+sized_judged false v expected given h = inl tt
+
+pub bodies_judged : (opener : Opener) (keys sealed : List (List ℕ)) → IsJudgedOr (judged_bodies opener keys sealed)
+bodies_judged opener [] sealed = inl tt
+bodies_judged opener (key ∷ []) sealed = sized_judged (length key == opener.key_size) (opened_with opener (opener.context_of key) sealed) opener.key_size (length key) (with_judged opener (opener.context_of key) sealed)
+bodies_judged opener (key ∷ other ∷ keys) sealed = inl tt
+
+same_length : (m n : ℕ) → m ≡ n → (m == n) ≡ true
+same_length m n e = grind (arith, e)
+
+-- one key of the right length, which brings a context
+pub judged_one : (opener : Opener) (keys sealed : List (List ℕ)) (key : List ℕ) (context : Context) → keys ≡ key ∷ [] → length key ≡ opener.key_size → opener.context_of key ≡ Some context
+    → judged_bodies opener keys sealed ≡ opened (open_at opener.open_of context) 0 sealed
+judged_one opener keys sealed key context one size has =
+    ap (λ (ks : List (List ℕ)). judged_bodies opener ks sealed) one
+    ∙ (ap (λ (sized : Bool). if sized then opened_with opener (opener.context_of key) sealed else Err (IncorrectInputLength opener.key_size (length key))) (same_length (length key) opener.key_size size)
+    ∙ ap (λ (o : Option Context). opened_with opener o sealed) has)
+
+-- ---- verdicts
+
+verdict_of : (v : Verdict) → IsJudgedOr v → IsVerdict v
+verdict_of (Ok messages) h = tt
+verdict_of (Err NoMemory) (inl j) = j
+verdict_of (Err NoMemory) (inr e) = absurd cc
+verdict_of (Err ReadFault) (inl j) = j
+verdict_of (Err ReadFault) (inr e) = absurd cc
+verdict_of (Err XofExhausted) h = tt
+verdict_of (Err InvalidData) h = tt
+verdict_of (Err UnexpectedEof) h = tt
+verdict_of (Err TooMuch) h = tt
+verdict_of (Err (NotOneKem count)) h = tt
+verdict_of (Err (IncorrectInputLength expected given)) h = tt
+verdict_of (Err (OpenError number)) h = tt
+
+reading_verdict : (opener : Opener) (reading : Reading) → IsVerdict (judged opener reading)
+reading_verdict opener (Before_done stanzas) = verdict_of (judged_bodies opener (bodies (codes "kem") stanzas) (bodies (codes "msg") stanzas)) (bodies_judged opener (bodies (codes "kem") stanzas) (bodies (codes "msg") stanzas))
+reading_verdict opener Invalid_data = tt
+reading_verdict opener Unexpected_eof = tt
+reading_verdict opener Too_much = tt
+
+-- what a mail comes to is a verdict
+pub opens_verdict : (opener : Opener) (text : List ℕ) (budget : ℕ) (v : Verdict) → Opens opener text budget v → IsVerdict v
+opens_verdict opener text budget v opens = subst IsVerdict (sym opens.verdict_is) (reading_verdict opener opens.reading)
+
+-- a mail has one verdict
+pub same_verdict : (opener : Opener) (text : List ℕ) (budget : ℕ) (v w : Verdict) → Opens opener text budget v → Opens opener text budget w → v ≡ w
+same_verdict opener text budget v w one other =
+    one.verdict_is ∙ (ap (judged opener) (same_reading text budget one.reading other.reading one.reads other.reads) ∙ sym other.verdict_is)
+
+-- no mail is without a verdict
+pub some_verdict : (opener : Opener) (text : List ℕ) (budget : ℕ) → ((v : Verdict) → Opens opener text budget v → ⊥) → ⊥
+some_verdict opener text budget none = some_reading text budget (λ reading reads. none (judged opener reading) (record { reading = reading; reads = reads; verdict_is = refl }))
+
+-- two mails with the same bodies of `kem` and of `msg` before their first `done` have one verdict
+pub same_bodies_verdict : (opener : Opener) (one other : List ℕ) (budget limit : ℕ) (ss ts : List Stanza) (v w : Verdict) → Reads one budget (Before_done ss) → Reads other limit (Before_done ts)
+    → bodies (codes "kem") ss ≡ bodies (codes "kem") ts → bodies (codes "msg") ss ≡ bodies (codes "msg") ts → Opens opener one budget v → Opens opener other limit w → v ≡ w
+same_bodies_verdict opener one other budget limit ss ts v w r q kems messages o p =
+    let first : v ≡ judged opener (Before_done ss) = o.verdict_is ∙ ap (judged opener) (same_reading one budget o.reading (Before_done ss) o.reads r) in
+    let second : w ≡ judged opener (Before_done ts) = p.verdict_is ∙ ap (judged opener) (same_reading other limit p.reading (Before_done ts) p.reads q) in
+    first ∙ (ap (λ (keys : List (List ℕ)). judged_bodies opener keys (bodies (codes "msg") ss)) kems ∙ (ap (judged_bodies opener (bodies (codes "kem") ts)) messages ∙ sym second))
+
+-- ---- what judging answers
+
+judges_said : (result v : Verdict) → Judges (λ (m : List (List ℕ)). m) result v → (result ≡ v) ⊎ (result ≡ Err NoMemory)
+judges_said (Ok messages) v j = inl (sym j)
+judges_said (Err NoMemory) v j = inr refl
+judges_said (Err ReadFault) v j = inl (sym j)
+judges_said (Err XofExhausted) v j = inl (sym j)
+judges_said (Err InvalidData) v j = inl (sym j)
+judges_said (Err UnexpectedEof) v j = inl (sym j)
+judges_said (Err TooMuch) v j = inl (sym j)
+judges_said (Err (NotOneKem count)) v j = inl (sym j)
+judges_said (Err (IncorrectInputLength expected given)) v j = inl (sym j)
+judges_said (Err (OpenError number)) v j = inl (sym j)
+
+-- what messages come to is never for want of a key
+pub opened_has_key : (meaning : ℕ → List ℕ → Option (List ℕ)) (number : ℕ) (sealed : List (List ℕ)) (result : Verdict) → Judges (λ (m : List (List ℕ)). m) result (opened meaning number sealed) → result ≢ Err XofExhausted
+opened_has_key meaning number sealed result j is =
+    let same : opened meaning number sealed ≡ Err XofExhausted = subst (λ (r : Verdict). Judges (λ (m : List (List ℕ)). m) r (opened meaning number sealed)) is j in
+    subst IsJudged same (opened_judged meaning number sealed)
+
+module _ (opener : Opener) (stanzas : List Stanza) (result : Verdict) (judges : Judges (λ (m : List (List ℕ)). m) result (judged opener (Before_done stanzas))) where
+  opens_as : (text : List ℕ) (budget : ℕ) → Reads text budget (Before_done stanzas) → (result ≡ judged opener (Before_done stanzas)) ⊎ (result ≡ Err NoMemory) → IsVerdict result → Opens opener text budget result
+  opens_as text budget reads (inl same) is = record { reading = Before_done stanzas; reads = reads; verdict_is = same }
+  opens_as text budget reads (inr memory) is = absurd (subst IsVerdict memory is)
+
+  -- the answer is the mail's verdict
+  pub done_opens : (l : Option (List ℕ)) (budget : ℕ) → IfSome l (λ text. Reads text budget (Before_done stanzas)) → IfSome l (λ text. IsVerdict result → Opens opener text budget result)
+  done_opens None budget reads = tt
+  done_opens (Some text) budget reads = opens_as text budget reads (judges_said result (judged opener (Before_done stanzas)) judges)
+
+  complete_as : (text : List ℕ) (budget : ℕ) (v : Verdict) → Reads text budget (Before_done stanzas) → Opens opener text budget v → (result ≡ judged opener (Before_done stanzas)) ⊎ (result ≡ Err NoMemory) → (result ≡ v) ⊎ (result ≡ Err NoMemory)
+  complete_as text budget v reads opens (inl same) = inl (same ∙ (ap (judged opener) (same_reading text budget (Before_done stanzas) opens.reading reads opens.reads) ∙ sym opens.verdict_is))
+  complete_as text budget v reads opens (inr memory) = inr memory
+
+  -- the mail's verdict is the answer
+  pub done_complete : (R : Type 0) (l : Option (List ℕ)) (budget : ℕ) → IfSome l (λ text. Reads text budget (Before_done stanzas))
+      → IfSome l (λ text. (v : Verdict) → Opens opener text budget v → (R → ⊥) → (result ≡ v) ⊎ (result ≡ Err NoMemory))
+  done_complete R None budget reads = tt
+  done_complete R (Some text) budget reads = λ v opens calm. complete_as text budget v reads opens (judges_said result (judged opener (Before_done stanzas)) judges)
+
+  judged_as : (result ≡ judged opener (Before_done stanzas)) ⊎ (result ≡ Err NoMemory) → IsJudgedOr result ⊎ (result ≡ Err NoMemory)
+  judged_as (inl same) = inl (subst IsJudgedOr (sym same) (bodies_judged opener (bodies (codes "kem") stanzas) (bodies (codes "msg") stanzas)))
+  judged_as (inr memory) = inr memory
+
+  answer_judged : IsJudgedOr result ⊎ (result ≡ Err NoMemory)
+  answer_judged = judged_as (judges_said result (judged opener (Before_done stanzas)) judges)
+
+  not_as : (e : MailError) → (IsJudged (Err e) → ⊥) → e ≢ XofExhausted → e ≢ NoMemory → IsJudgedOr result ⊎ (result ≡ Err NoMemory) → result ≢ Err e
+  not_as e other x m (inl (inl j)) is = other (subst IsJudged is j)
+  not_as e other x m (inl (inr key)) is = x (let same = sym is ∙ key in cc same)
+  not_as e other x m (inr memory) is = m (let same = sym is ∙ memory in cc same)
+
+  -- no fault of the source and no end of it is answered
+  pub done_no_fault : result ≢ Err ReadFault
+  done_no_fault = not_as ReadFault (λ j. j) (λ e. cc e) (λ e. cc e) answer_judged
+
+  pub done_not_ended : result ≢ Err UnexpectedEof
+  done_not_ended = not_as UnexpectedEof (λ j. j) (λ e. cc e) (λ e. cc e) answer_judged
+
+stopped_as : (result : Verdict) (budget : ℕ) (bytes : List ℕ) → IsJudgedOr result ⊎ (result ≡ Err NoMemory) → result ≢ Err XofExhausted → HoldsDone bytes → StoppedBy result budget bytes
+stopped_as (Ok messages) budget bytes h key holds = holds
+stopped_as (Err NoMemory) budget bytes h key holds = tt
+stopped_as (Err XofExhausted) budget bytes h key holds = absurd (key refl)
+stopped_as (Err ReadFault) budget bytes (inl (inl j)) key holds = absurd j
+stopped_as (Err ReadFault) budget bytes (inl (inr e)) key holds = absurd (key e)
+stopped_as (Err ReadFault) budget bytes (inr e) key holds = absurd cc
+stopped_as (Err InvalidData) budget bytes (inl (inl j)) key holds = absurd j
+stopped_as (Err InvalidData) budget bytes (inl (inr e)) key holds = absurd (key e)
+stopped_as (Err InvalidData) budget bytes (inr e) key holds = absurd cc
+stopped_as (Err UnexpectedEof) budget bytes (inl (inl j)) key holds = absurd j
+stopped_as (Err UnexpectedEof) budget bytes (inl (inr e)) key holds = absurd (key e)
+stopped_as (Err UnexpectedEof) budget bytes (inr e) key holds = absurd cc
+stopped_as (Err TooMuch) budget bytes (inl (inl j)) key holds = absurd j
+stopped_as (Err TooMuch) budget bytes (inl (inr e)) key holds = absurd (key e)
+stopped_as (Err TooMuch) budget bytes (inr e) key holds = absurd cc
+stopped_as (Err (NotOneKem count)) budget bytes h key holds = holds
+stopped_as (Err (IncorrectInputLength expected given)) budget bytes h key holds = holds
+stopped_as (Err (OpenError number)) budget bytes h key holds = holds
+
+-- what was taken for the stanzas was taken for the answer
+pub done_taken : {X : Type 0} (opener : Opener) (stanzas : List Stanza) (result : Verdict) → Judges (λ (m : List (List ℕ)). m) result (judged opener (Before_done stanzas)) → result ≢ Err XofExhausted
+    → (l m : Option (List ℕ)) (budget : ℕ) (x : X) → Lost l m (ReadTaken {X = X} budget (Ok x)) → Lost l m (IsTaken budget result)
+done_taken opener stanzas result judges key None m budget x taken = tt
+done_taken opener stanzas result judges key (Some text) m budget x taken =
+    let read = taken.4 in
+    (taken.0, taken.1, taken.2, taken.3, record { within = read.within; behind = read.behind; stopped = stopped_as result budget taken.0 (answer_judged opener stanzas result judges) key read.stopped })
+
+-- ---- where there are no stanzas
+
+module _ {X : Type 0} (view : X → List Stanza) (opener : Opener) where
+  refused_as : (text : List ℕ) (budget : ℕ) (e : MailError) → IsRead view text budget (Err e) → IsVerdict (Err e) → Opens opener text budget (Err e)
+  refused_as text budget NoMemory read is = absurd is
+  refused_as text budget ReadFault read is = absurd is
+  refused_as text budget XofExhausted read is = absurd read
+  refused_as text budget InvalidData read is = record { reading = Invalid_data; reads = read; verdict_is = refl }
+  refused_as text budget UnexpectedEof read is = record { reading = Unexpected_eof; reads = read; verdict_is = refl }
+  refused_as text budget TooMuch read is = record { reading = Too_much; reads = read; verdict_is = refl }
+  refused_as text budget (NotOneKem count) read is = absurd read
+  refused_as text budget (IncorrectInputLength expected given) read is = absurd read
+  refused_as text budget (OpenError number) read is = absurd read
+
+  -- the refusal is the mail's verdict
+  pub refused_opens : (l : Option (List ℕ)) (budget : ℕ) (e : MailError) → IfSome l (λ text. IsRead view text budget (Err e)) → IfSome l (λ text. IsVerdict (Err e) → Opens opener text budget (Err e))
+  refused_opens None budget e read = tt
+  refused_opens (Some text) budget e read = refused_as text budget e read
+
+  complete_refused : (text : List ℕ) (budget : ℕ) (e : MailError) (v : Verdict) → IsRead view text budget (Err e) → Opens opener text budget v → e ≢ ReadFault → (Err e ≡ v) ⊎ (◌≡◌ {A = Verdict} (Err e) (Err NoMemory))
+  complete_refused text budget NoMemory v read opens calm = inr refl
+  complete_refused text budget ReadFault v read opens calm = absurd (calm refl)
+  complete_refused text budget XofExhausted v read opens calm = absurd read
+  complete_refused text budget InvalidData v read opens calm = inl (same_verdict opener text budget (Err InvalidData) v (refused_as text budget InvalidData read tt) opens)
+  complete_refused text budget UnexpectedEof v read opens calm = inl (same_verdict opener text budget (Err UnexpectedEof) v (refused_as text budget UnexpectedEof read tt) opens)
+  complete_refused text budget TooMuch v read opens calm = inl (same_verdict opener text budget (Err TooMuch) v (refused_as text budget TooMuch read tt) opens)
+  complete_refused text budget (NotOneKem count) v read opens calm = absurd read
+  complete_refused text budget (IncorrectInputLength expected given) v read opens calm = absurd read
+  complete_refused text budget (OpenError number) v read opens calm = absurd read
+
+  -- the mail's verdict is the refusal
+  pub refused_complete : (R : Type 0) (l : Option (List ℕ)) (budget : ℕ) (e : MailError) → IfSome l (λ text. IsRead view text budget (Err e)) → (e ≡ ReadFault → R)
+      → IfSome l (λ text. (v : Verdict) → Opens opener text budget v → (R → ⊥) → (Err e ≡ v) ⊎ (◌≡◌ {A = Verdict} (Err e) (Err NoMemory)))
+  refused_complete R None budget e read rose = tt
+  refused_complete R (Some text) budget e read rose = λ v opens calm. complete_refused text budget e v read opens (λ fault. calm (rose fault))
+
+phase_has_key : (phase : PhaseError) → of_phase phase ≢ XofExhausted
+phase_has_key PhaseNoMemory e = cc e
+phase_has_key PhaseReadFault e = cc e
+phase_has_key PhaseInvalidData e = cc e
+phase_has_key PhaseUnexpectedEof e = cc e
+phase_has_key PhaseTooMuch e = cc e
+
+-- no phase refuses for want of a key
+pub refused_has_key : (e : MailError) → ((phase : PhaseError) × (e ≡ of_phase phase)) → e ≢ XofExhausted
+refused_has_key e is same = phase_has_key is.0 (sym is.1 ∙ same)
+
+-- what was taken for a refusal of the stanzas was taken for the answer
+pub refused_taken : (X : Type 0) (l m : Option (List ℕ)) (budget : ℕ) (e : MailError) → Lost l m (ReadTaken {X = X} budget (Err e)) → Lost l m (IsTaken budget (Err e))
+refused_taken X None m budget e taken = tt
+refused_taken X (Some text) m budget e taken =
+    let read = taken.4 in
+    (taken.0, taken.1, taken.2, taken.3, record { within = read.within; behind = read.behind; stopped = read.stopped })
