@@ -11,5 +11,6 @@ pub mod rejected_secrets;
 pub mod sealed_contexts;
 pub mod sealed_records;
 pub mod sent_secrets;
+pub mod stored_seeds;
 pub mod tagged_values;
 pub mod written_polynomials;

@@ -1,29 +1,36 @@
 //! A caller of `kem_mail`.
 
-ghost use Rattle.std.specs.Prelude.{◌≡◌, ℕ, ◌<◌, List, [], None, IfOk, IfSome, Some, IsErrOf, drop, take};
-ghost use Rattle.age_core.specs.Reading.{HasNoDone};
-ghost use Rattle.hpke.specs.Schedule.{suite_of};
-ghost use Rattle.kem_mail.specs.Mail.{Opens, opener_of};
+ghost use Rattle.std.specs.Prelude.{◌<◌, ℕ, [], IfSome, IsErrOf, length};
+ghost use Rattle.gcm_core.specs.Gcm.{open_of};
+ghost use Rattle.kem_hash.specs.Sha2.{sha2_family};
+ghost use Rattle.ml_kem.specs.Parameters.{ml_kem_768};
+ghost use Rattle.kem_mail.specs.Command.{kdf_algorithm, aead_algorithm};
+ghost use Rattle.kem_mail.specs.Mail.{OpensByKey, IsVerdict};
+ghost use Rattle.kem_mail.specs.Taken.{Lost, BeginsList};
+ghost use Rattle.kem_mail.specs.declared.command.KdfName.TheVariants.{Sha256};
+ghost use Rattle.kem_mail.specs.declared.command.AeadName.TheVariants.{Aes256};
 
 use age_core::outside::Source;
-use hpke::{Aead, Kdf, Kem};
-use kem_mail::{MailError, MessageList, open_with};
+use hpke::{AesGcm256, HkdfSha256};
+use kem_hash::Sha2Hash;
+use kem_mail::{MailError, MessageList, open_mail};
+use ml_kem::{MlKem768, Seed};
 use std::alloc::Global;
 
 /// The most bytes of a mail that a mailbox reads.
 const BUDGET: u64 = 65_536;
 
-/// Opens the mail of a mailbox, of which 65536 bytes are read at most, without an info.
-pub fn open_mailbox<K: Kem, D: Kdf, A: Aead, S: Source>(
+/// Opens the mail of a mailbox with the key of a seed, without an info. At most 65536 bytes are read, and
+/// where the source fails, those that were read hold no whole `done`.
+pub fn open_mailbox<S: Source>(
     alloc: Global,
-    sk: &K::PrivateKey,
+    seed: &Seed,
     src: &mut S,
 ) -> Result<MessageList, MailError>
-    ensures opened { IfOk result (λ messages. IfSome (S.left src.old) (λ text. Opens
-        (opener_of (suite_of K.KEM_ID D.kdf A.aead) [] K.EncappedKey.wire_size (K.decap_of (K.PrivateKey.bytes sk.now) None) A.AeadImpl.open_of)
-        text BUDGET messages)) }
-    ensures fault { IsErrOf result MailError.ReadFault → IfSome (S.left src.old) (λ text. (n : ℕ) × (n < BUDGET)
-        × (S.left src.new ≡ Some (drop n text)) × (rest : List ℕ) × HasNoDone (take n text) rest) }
+    ensures verdict { IfSome (S.left src.old) (λ text. IsVerdict result → OpensByKey ml_kem_768 sha2_family
+        (kdf_algorithm Sha256) (aead_algorithm Aes256) open_of seed.now [] text BUDGET result) }
+    ensures fault { IsErrOf result MailError.ReadFault
+        → Lost (S.left src.old) (S.left src.new) (λ bytes. BeginsList bytes × (length bytes < BUDGET)) }
 {
-    open_with::<K, D, A, S>(alloc, sk, b"", src, BUDGET)
+    open_mail::<MlKem768, Sha2Hash, HkdfSha256, AesGcm256, S>(alloc, seed, b"", src, BUDGET)
 }
