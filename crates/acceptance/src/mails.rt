@@ -1,0 +1,55 @@
+//! Mails of an independent model of the program, and what it answers to them.
+
+use crate::runs::Part;
+
+/// The line of the seed of a mail under 768, SHA-256 and AES-256.
+pub const SEED: Part = (
+    1,
+    "df97c83b34c8c6dc872f82102fc4a2328875b37b6a53d6bf921d4ca99048fd921d73f1614c8d15ca3ce77e7a0d7dcfd70321eef767768b52389c62b7f1c9a8a4\n",
+);
+
+/// Its encapsulated key.
+pub const KEM: Part = (
+    1,
+    "-> kem\nHuA0X3tA3X+C3xaJd9rDT5PScS+CBJ/HB1MfTFgsBbGY+2ny2KXK6IhBX52pS1Yc\n+KbpeS4iQzK8Ku/iFlSUqV8ZIjaJ9q2iP+2odopKlQKgL73OD+9JJyjQBrQxefmq\nHRQaJlIBx2iCss+dIyDUUNB/gw3piRbEP0+ZqGEV6eiqfAgBq0GdmQJapHv1PU5Q\nNeS9Zdl7CWH9E23T6Sg8u/WtB+eQniP4BrW/gJYgGsuPGVgMEz8g0ERdoHxrxZrI\nIxbEQGaDLMpzO24RjK7XQpJ2hA8bR/lCDTHluF7CkrzsNKEFi+8RfPjBB2zgP2Un\ndOnaN9+3TTOB4bv4Dtmi1Jb+wVeuZCc9W7tiyqsbVVWaE3zN3f3mskyCAY7z3kHs\nYLHQ4cRU94cuZQX+D0+nwT6U1FMwNwcthJmxB5/itK7IQYzNd9PXeCHeeSpIYzMl\nRu/Ove83YFeMc+4O2zQMlJjR+Y6TTyCxiVzNBIKjvM4Okq7E1lRyJR5AZysH2SeZ\nLWeGtcyN6y4Yh4PosqjcCz5qvt9lVHTOzqQ8EsLPyLYxl2RbL6uBp3/8mVpoGu+d\nPvkypbzLpqfeynmExlxzInyx1YEBZul/KAADSbygRQoWP6GSBujOw2g87NZnIHc3\nS7OODJpcjlCJqVNRGlbbfhR+2PRlRLoNEgDd4cCcQ+5Ns38nzvq7x00WT/yIgXTf\nJoIqqYm66QwrwU7pU2YUR25YkUFVjMOJSzGAszTRFiNZOKczpJIiOXXA1NpE7pI0\nxoHtPx0v4ix20GvMDLyNdIQIWGDiwJiHEJcrz6My5twHoYxVGF5AARsBwN44LOv5\n2N/4egQVUWflSF52Bwt5eZrrmLYLOfwi0I0iz1tRdkn0Nsxqw+AdEn+EjCRNPugs\nQZQ5eob/zo+hzmx9aQgi7iwISegAd8ESrAINIlYCXsfAKvD9xAyg0sFURLtBf+vo\nQont956pxQay0PVZ/NXgWC1cd6wEmISY8/DSDcYx7dlT5pV9FGrzZ3x0CmqV0lQe\ntHjuS7EEAFyNhfK2uzPW0lWW5nDcrOYe8TTSHWDSqaWGsVv3r2gV39XVQxOGV6bj\nsDWo9ozfApQWdaO6214ubGAMaQ82jk/+0INeUR/s32rIBiR2YEbl29nELj7m1Mg4\nijHfln5MzxKK0MwdnhU9mqCHxJxLC+7VVcALHqxXQH1SmkzhOE32tgH6Ib1+N7n7\nps8l8qaGaNkHSxzTkYescwMu6HKjhvfmgOXOOECs1rEfI795W0NRLsHUutg5INsw\ny+8e0j6CYUqyJfOkt54qTP5mG+QkxWv9x83yEvhr54S/PfB3Vce/wiA+LOSTevo+\nIrQudVBYAkDX+tveapNrAiU2zEzUMQbS66r96Hbm+Z3KGAi8PwGfbsQfNVBIJMnf\nWjN/s0mw6N0cpL4tGicHiyigIv7MO+opIBAicji/vmk\n",
+);
+
+/// The stanza of its first message.
+pub const FIRST: Part = (1, "-> msg\nRG223CVzDYuXXKZ13bbN0w\n");
+
+/// The stanza of its second message.
+pub const SECOND: Part = (1, "-> msg\n7ZD5eGpFj8e4LyeXM7nd7p0\n");
+
+/// The stanzas of its other three messages.
+pub const OTHERS: Part = (
+    1,
+    "-> msg\ncdBzAk9HfkuUpDLQebxCgaYgpc0w\n-> msg\nP8Jn+6Mnddp4PeB+d3tj8q0DYkNqdoh4D84/cH2F408nLPtqVtxsZo1qHEh3V2py\ngKCJ01rw0tzZ1ZYnupHOIg\n-> msg\nN6QboyM/sELDW2hzouewP1OeIOlGSvrNl/Z4kgsWcDc9uLSXsGq9m3hS31CG1T8l\nvljt9n+s3WVOmgaTEqiRoW+1XgPeDlzSWLcQGhM23ltNPSHT+td1yHTytDAnareL\nmvJ4h+YilaKS068Jqon+3jgQcp9OBsbbEWLwvYOB6YZUEVwRSTMl7m5zM457C0zq\naOIMxfJYfePnl0ruGWwKzWtKk4tmoQl19VXL/s5LpT7jmXGyZGKaHQrEzSv0lAv4\nyT2YWCmBnFV/7sBofaCNS6DYXAiVMhhKplNiWHEkBnY8HIK9yzLgXQGV7J2u+H33\nQGMGC/KFkfFFOE/hMvO89a2boN/2Zl2t41taEemOT/hhV2rbvAdmzq2uJOi3lWPQ\n+EiL+XH/k8YlpNKN7s8cyci/47dAU1j4YFLEIg\n",
+);
+
+/// The five messages in stanzas with an argument, and stanzas of another tag.
+pub const ARGUED: Part = (
+    1,
+    "-> odd 1\nr/XZeLk\n-> msg 1\nRG223CVzDYuXXKZ13bbN0w\n-> odd 1\n4l7KpuA\n-> msg 1\n7ZD5eGpFj8e4LyeXM7nd7p0\n-> odd 1\nm2jPqEU\n-> msg 1\ncdBzAk9HfkuUpDLQebxCgaYgpc0w\n-> odd 1\nvdRHI8c\n-> msg 1\nP8Jn+6Mnddp4PeB+d3tj8q0DYkNqdoh4D84/cH2F408nLPtqVtxsZo1qHEh3V2py\ngKCJ01rw0tzZ1ZYnupHOIg\n-> odd 1\nnMJlovE\n-> msg 1\nN6QboyM/sELDW2hzouewP1OeIOlGSvrNl/Z4kgsWcDc9uLSXsGq9m3hS31CG1T8l\nvljt9n+s3WVOmgaTEqiRoW+1XgPeDlzSWLcQGhM23ltNPSHT+td1yHTytDAnareL\nmvJ4h+YilaKS068Jqon+3jgQcp9OBsbbEWLwvYOB6YZUEVwRSTMl7m5zM457C0zq\naOIMxfJYfePnl0ruGWwKzWtKk4tmoQl19VXL/s5LpT7jmXGyZGKaHQrEzSv0lAv4\nyT2YWCmBnFV/7sBofaCNS6DYXAiVMhhKplNiWHEkBnY8HIK9yzLgXQGV7J2u+H33\nQGMGC/KFkfFFOE/hMvO89a2boN/2Zl2t41taEemOT/hhV2rbvAdmzq2uJOi3lWPQ\n+EiL+XH/k8YlpNKN7s8cyci/47dAU1j4YFLEIg\n-> odd 1\nYygjdUM\n",
+);
+
+/// What a run writes of its messages.
+pub const OPENED: &str =
+    "\n00\n68656c6c6f\n881d8f7e7b47b033c52b4512dafabf3edc184924ee4245c1961d5fd210a70320cc28acefc53915cbd1c1d0561c5481e4\ne50fdf37d5d8a441a213e95337064ee1809afaac258122aec8435ad2831c3e9cfb280f6e127338ada5364d245d6e4a2e414f666097f2ddd5a7612bb581a2ca27bd34d07b935338436da9f99b3140b7bdaff110de165122c952e3079417e2866f744d3a028122e65ef8baaa06902fc8aa6f0bab7cf719d347c763fc7b2748808a9d50a1f00e3816ebc7c3341e295de07336e969c6459895873da65e80d6e597aad903e5899a6679632d77be1d28ed0715546dc17e7dd70162105c1ca0bdce859155e5e767e46242f16b60af2e7ade743043a99f4273119bf320e462cbae6ca585d72b02700e40e6431eda73e09d55f3896239f7fde5eadf46d16fbe7e5a1cac5ec73fae294af09afdac4e847f6bcc24d6025b26746532b616317bcff0a942bda364e2ac63136c24a321396991\n";
+
+/// The line of a seed in upper case.
+pub const UPPER_CASE: Part = (
+    1,
+    "B0CCCC70AD501444882C6DC7A569FEB072C99557AFD6176DF98D55E881FFFE54BE7CE7B3D85E3923553D2FB8F0AC6CA1A76F6AB185895B9F5BF73E2A8E5752AD\n",
+);
+
+/// A mail under 512, SHA-384 and AES-128, with its head.
+pub const MAIL_512: Part = (
+    1,
+    "0704a7ce832b0f3241769a4f15a16e0fc5105f8c594842e4fd17d17e3991ed12dc83aba186cfe6736d34798df00cfbed31f487a7d0fea247e63ed6c7ebf217e1\n7375697465\n-> kem\ns8UKJp2jWHS98HT6gdteg4UpqxSkdMAfJa5E09fM6S4wM7XyJeSIsfJ1U2fRYoKA\ny66do5kPl3861Tr1hZEVmTK3ScYv0iWJors5IajWroqchHFvTFxp8CyNHUVP4LNM\n7BvQfNsE0pv/YR9gMMhZoXjDsWHRNGxtgY7KRaY/otgK9qK2Z0X8MTYL4XlEoCqO\nBFtzsQpwvUrhB9PHw5Hk2f7KsT5UTnnY9/3e5x65ftbNLflx+4q9g++qpaLBX8eD\nDr1rmN8ojnB7L8tFhJ1rF/hoWOZlOuqJwG4q9UdQ/3rSdkUPMSPPu4cDKWC5hH3K\n0N6SqpQm4ViKHtGm4D+6aVLQGoY52nH2ooEwh0o9b7tAWZm7MT+y8sV1J0CM73ca\nL0+ZxfSd49G/CwDCpnZhcnuRV2wsKi/gKMOeRroBJD0JScjVWrVcoIdqkxKwWFnU\nK4JLaNoKJLzYi41CbH+aU1KCC2YNHaEfg1LYjx/cYym5dW2Ep1bk54cxIw4sxu1O\nUDjjTtZyE/h3Pys5V1/VmaS/TvPseQVEnLdqJXzhLU/vnGREPiBPTfH8DIfRCa54\n/ivVw+K/VlQ6sOJVO4AgXkEt/Cm39e1lMqDd+NIHKC2LGnyFMeJ7gcKo/csUINvD\n/8/+pwcxd6RaLecEdACUSzGzJ/x6WlW1TqyrTMJkHHIMC2yPsyey7kBIgI7+pDlY\n1lusVHZ/rM4eir2ZDFufVvoXiMXMRhRVTw3AeNpi6w5AzEi5I9K7aZbMe+ND0tZq\npgjnrzq5w2dvKeoSDlZ7ChMkh30NFl9DArrM3YQJA/hnVqYchHlGvyV36aInC0Yh\n43KMsU4tcEuws3QJVujErehb1TsH0kWQBlvvJIMENB/EoHlDIS2kPjnXe1NM0imY\nS7EGrcCdrkIUtMX/AB5nl4jwzYBnX6vufbM3utzBPQA/2JNmd5tWPBybEqcpTwXx\nQcrTroAVsLLBzKHzHTNSrmsrsGEwlwAXmO0gQLUTCPmHCRZZJtnQS/Fsoks5xK9C\n\n-> msg\nuIG8y7Ei8acRyPnmVieeVA\n-> msg\n6/AUT1gv5IPoEjV5cwkgccNA5R89kbLDc2I/me41KqDD9Utt\n-> done\n\n",
+);
+
+/// A mail under 1024, SHA-512 and AES-256, with its head.
+pub const MAIL_1024: Part = (
+    1,
+    "f1066f67535ff3556e7b562020cbd32328b2b1191eddc75687e8cf217839e0f3c16a6812457e672ddf7eb20b593ebfb268eb1c1de4abaa79a09de91b2d76cc64\n7375697465\n-> kem\nMlBk142dFZL/90HiHTGSFIBd3m6yaAZn8XrunYealtnnX7+9xQExDaVUb8C1U70/\n2buobFIZIlgo7bG27e936d/RjT4AlqEOWT+2ctEccSEECfNeMzPIceU9WgimrLtz\nJVzz9N7mI4a9tcKY4nybLpeDoVe/YoQUQIiSR+D2O/mMLPs82kdmKHapW7vqGYMx\nUEE+MHMl0S0q5Opy4wqpElrvi5/L4qNRSOPPhrZxPRUPP6xHK35Ikbk37XXw/Ivx\nJrvLt/f01SsHhPoRXh9/bVq9Mitp8bRLgXTBnJYD85aj9+AEuwu+UA154o74nSaI\nV3tEWBHBMw95JJckkNDp+c/hiQL5NpP8sobgLkXG+ybzJcXtmZ/E+mnFQDSmm31f\n2qHq+f1RUvwEKxXQcT4vtUrQN+kTEeISZ/2TQB/F9uwxNIdb/z7MSSQhhfDzeDtE\n4XxtEKigWpbAhtekMhC4rnNZHj2wBLEH5ebqJc28jr72EaWx/RdiEA6T6zqsbiul\nSgVhviRIsSdS/j/iS8RngwpjBScGgasAM6pSJpWpawv761AKqXNXR/cOdoYPyT6V\njecXIHorqShXv3WZwg4H2EGxgwBrEj9q1BLqxmL+tfvZwfJ9p0Wld5QVou/fNBXB\nnmqEAj+TEIe7hdi4K7Fr7Qj4h4TIN4C39TT+VeROn9XaRCNHQYhPOtYRv0maHG/m\nZt6kZmIplMg2V6V62f+rAs1rGhDjRgtctKzahT0P7qUpjf65wSddrPQ+52hg3RVZ\neJ7f/6Az72iLeCoYbRTaPEO/pxHNn8Ry5J3rZpUU0iEXCINbIrt6hC5TPNxOIPhm\ntD0G7I+KTTvXHdaQ4QK9T6iOpuXSRYZWduHf8kNax/asHA+hICfOM0UEXixRcHst\nGqE3o6n4p8w3tLym+Gt+kVKweTWm2SD4STjzbEfumt86wiTb9xSfWrZRS10aM84C\n4EmCMUhYAZfS9xLA8lAo0Y1X5ykY11otW6YHj0J29BL/KjeNDcwteVo3aSUDvrTW\nwyqh9o41nnKahdcwyab7vf0BoqF+ofUivuqY8PbF2yfnyK9iZW+OoLXexaqFp3yY\nM93dILP+DUp6BasHBw2dZmjek8Q8rJ63Y2tr++BMy6ZqdDW6VREK6FBpnze9WT2z\nQJosomyPXpRM4GBgoXy17NF61OJybm75k7+RvMbjUXKY2x0Sm+KVv/rUyEFbnAOr\n80DcYIBTijv3l2EvCqGDwA/QPDHDvihJUIKGcp2Cw9zCd0n9Cz7702wYu8kfivx6\nIXvT1LkvJkJebdy28uqrK4weateIJ9SGvGhwhoHzjQ7N3Duz8qRWoX02AtqtC3O2\nXqIvx2lPsEht63ci/DbFKJUEVEO0td578eGMvtGfkMt1s+fcKZwoeqzwSaN1da3C\n6id4lCf3q4JGTme/gB3dfw/E8+X0Z7jhNxUAlwavf/Fhzm8WieXgWHIswxgo643N\nE9FbC/U82Nco0nPyCdEAj/ben0oBm2s3TIgO2eh6PIllbq8p51bS5GQhgK0tPSwv\nFiUAnLniClWjC2S3CYbIw9189FycE8/atwsLw6QEiFXhDNqWf4eBioCmhm1F/2bL\n2ILB9YI6ysba4C4gwatgzIMVFysPzvzakzMYg/uPUyF2TegRcAVR+Ef8sgnlnMVY\n/mowvZYyIuulvoYVrtK1r9mUb1gmxjhtEbrUVCG/j7qti1zWzkk5S0R2J0eWZeAH\noG5PiXbTBz0zCTZb7mlbGhz6N1VwWtsnrm+UKa+Yer7HH4uGA94hbDNP30Kh4t6E\n2Mc0XxGUbXkJvWRFOAnQ1nCGRT63LDVoF9YHbq53kMkZU3Ip8REtWJUaGVfXyr8T\n4bbaIsQZ0TKsECRIv8OUFeZWbMRfRn4vj9iEH/CIDhfZcKsH6OlKCziHXSQcVanK\nsqrEX7i97hOWIFkpqWbr2nvgtKBtzA9GiP25q4alAcdX1VuFzAj0BEn3WW/GdIqj\ndWyK5/IR0D+lKlH7UE6w8tEopYdRtKILh644ZxEmWWKsvMmJzaFEwCIlHhG/j7JS\n/GOiurvGUulH2s55KxddjnR2zjcHdK4HMC8f7jNiHrY\n-> msg\njNxBfiazO00gdDQaiDqi/A\n-> msg\nUxpb1bxlDFYERqd5/7s6AQp5k3x/TUwtchW4p09pldUUBJT4\n-> done\n\n",
+);
