@@ -1,0 +1,96 @@
+//! The lattice KEM over the family of SHA-2, for its three sets.
+
+use crate::ciphers::Hashing;
+use crate::stopwatch::{Work, fastest};
+use anyhow::{Result, ensure};
+use kem_hash::Sha2Hash;
+use ml_kem::{
+    Ciphertext, DecapsulationKey, MlKem512, MlKem768, MlKem1024, ParameterSet, SharedKey,
+};
+use std::alloc::Global;
+use std::time::CpuClock;
+
+/// How many calls make a trial.
+const RUNS: u32 = 8;
+
+/// How many hashes make a trial.
+const HASHES: u32 = 256;
+
+/// The bytes that are hashed beside.
+const HASHED: usize = 8192;
+
+type Key<P> = DecapsulationKey<P, Sha2Hash>;
+
+/// A call of the KEM.
+#[derive(Clone, Copy, Debug)]
+enum Call {
+    FromSeed,
+    Encapsulate,
+    Decapsulate,
+}
+
+/// One call, made over and over.
+#[derive(Drop)]
+struct Calls<P: ParameterSet> {
+    alloc: Global,
+    call: Call,
+    key: Key<P>,
+    ciphertext: Ciphertext<P>,
+    shared: SharedKey,
+}
+
+impl<P: ParameterSet> Calls<P> {
+    fn new(alloc: Global, call: Call) -> Result<Calls<P>> {
+        let key = Key::<P>::from_seed(alloc, &[3; 64])?;
+        let made = key.encapsulation_key().encapsulate_deterministic(&[4; 32])?;
+        let (ciphertext, shared) = made;
+        Ok(Calls {
+            alloc,
+            call,
+            key,
+            ciphertext,
+            shared,
+        })
+    }
+}
+
+impl<P: ParameterSet> Work for Calls<P> {
+    fn run(&mut self) -> Result<()> {
+        match self.call {
+            Call::FromSeed => self.key = Key::<P>::from_seed(self.alloc, &[3; 64])?,
+            Call::Encapsulate => {
+                let key = self.key.encapsulation_key();
+                let made = key.encapsulate_deterministic(&self.shared)?;
+                let (_ciphertext, shared) = made;
+                self.shared = shared;
+            }
+            Call::Decapsulate => {
+                let shared = self.key.decapsulate(&self.ciphertext)?;
+                ensure!(shared == self.shared, "another secret");
+            }
+        }
+        Ok(())
+    }
+}
+
+fn print_set<P: ParameterSet>(
+    rt: &(impl Print + CpuClock + AllocGlobal),
+    name: &str,
+) -> Result<()> {
+    for call in [Call::FromSeed, Call::Encapsulate, Call::Decapsulate] {
+        let mut calls = Calls::<P>::new(rt.alloc(), call)?;
+        let time = fastest(rt, &mut calls, RUNS)?;
+        println!(rt; "{name} {call:?}: {} us", time.micros())?;
+    }
+    Ok(())
+}
+
+/// Prints the times of SHA-256 and of the three sets.
+pub fn print_all(rt: &(impl Print + CpuClock + AllocGlobal)) -> Result<()> {
+    let mut hashing = Hashing::new(rt.alloc(), HASHED)?;
+    let time = fastest(rt, &mut hashing, HASHES)?;
+    println!(rt; "SHA-256 {HASHED}: {} us", time.micros())?;
+    print_set::<MlKem512>(rt, "ML-KEM-512")?;
+    print_set::<MlKem768>(rt, "ML-KEM-768")?;
+    print_set::<MlKem1024>(rt, "ML-KEM-1024")
+}
