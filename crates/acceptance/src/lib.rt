@@ -10,8 +10,6 @@ mod hpke_suites;
 #[cfg(test)]
 mod key_kem;
 #[cfg(test)]
-mod lattice_kem;
-#[cfg(test)]
 mod mails;
 #[cfg(test)]
 mod refusing_kem;
