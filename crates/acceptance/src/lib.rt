@@ -2,17 +2,11 @@
 #![tactic(auto)]
 
 #[cfg(test)]
-mod family;
+mod exhausted;
 #[cfg(test)]
-mod hpke_rows;
-#[cfg(test)]
-mod hpke_suites;
-#[cfg(test)]
-mod key_kem;
+mod families;
 #[cfg(test)]
 mod mails;
-#[cfg(test)]
-mod refusing_kem;
 #[cfg(test)]
 mod runs;
 #[cfg(test)]

@@ -1,10 +1,10 @@
 //! Whole runs over memory, and the calls below them, by their tables.
 
-use crate::family::OnesHash;
+use crate::families::{AboutModulus, Ones, Repeats, SmallAndFifty, Zeros};
 use crate::mails::OPENED;
 use crate::runs::{
-    DONE_INPUT, FAULTY_RUNS, KEYS, MESSAGES_INPUT, NO_COMMANDS, Part, ZERO_MAIL, ZERO_SEED, heads,
-    opened_mails, refusals,
+    DONE_INPUT, FAULTY_RUNS, KEYS, MESSAGES_INPUT, NO_COMMANDS, Part, ZERO_INPUT, ZERO_MAIL,
+    ZERO_SEED, heads, opened_mails, refusals,
 };
 use age_core::outside::{CleanSource, MemSink, MemSource, Source};
 use hpke::{AesGcm256, Deserializable, HkdfSha256, MaskKem, MaskKey};
@@ -52,7 +52,7 @@ fn input(alloc: Global, parts: &[Part]) -> Result<Vec<u8>, AllocError> {
 }
 
 /// One run over the source, with the writes of these numbers failing.
-fn run<S: Source>(
+fn run_by<H: KemHash, S: Source>(
     alloc: Global,
     command: &str,
     src: &mut S,
@@ -60,9 +60,19 @@ fn run<S: Source>(
 ) -> Result<Answer, AllocError> {
     let words = words_of(alloc, command)?;
     let mut sink = MemSink::new(alloc, Vec::from_slice(alloc, fail_at)?);
-    let status = mail_main::<Sha2Hash, S, MemSink>(alloc, &words, src, &mut sink);
+    let status = mail_main::<H, S, MemSink>(alloc, &words, src, &mut sink);
     let output = Vec::from_slice(alloc, sink.bytes())?;
     Ok(Answer { status, output })
+}
+
+/// One run over the family by SHA-2.
+fn run<S: Source>(
+    alloc: Global,
+    command: &str,
+    src: &mut S,
+    fail_at: &[u64],
+) -> Result<Answer, AllocError> {
+    run_by::<Sha2Hash, S>(alloc, command, src, fail_at)
 }
 
 /// How the bytes are cut changes no answer.
@@ -152,12 +162,70 @@ fn open_zero_mail<H: KemHash>(
 #[test]
 fn a_seed_gives_a_key_or_none(rt: HostRuntime) -> Result<(), Fail> {
     let mut src = MemSource::new(input(rt.alloc(), ZERO_MAIL)?, WHOLE, Vec::new(rt.alloc()));
-    let refused = open_zero_mail::<OnesHash>(rt.alloc(), &mut src);
+    let refused = open_zero_mail::<Repeats<Ones>>(rt.alloc(), &mut src);
     assert_eq!(rt; refused.err(), Some(MailError::XofExhausted));
     assert_eq!(rt; src.reads(), 0);
     let opened = open_zero_mail::<Sha2Hash>(rt.alloc(), &mut src);
     let messages = opened.ok().ok_or("a mail without messages opens")?;
     assert!(rt; messages.is_empty());
+    Ok(())
+}
+
+/// The SHA-256 of what `key 768` writes of the zero seed.
+fn key_digest<H: KemHash>(alloc: Global) -> Result<String, Fail> {
+    let mut src = CleanSource::new(input(alloc, &[ZERO_SEED, (1, "\n")])?);
+    let answer = run_by::<H, CleanSource>(alloc, "key 768", &mut src, &[])?;
+    Ok(hex::encode(alloc, &Sha256::digest(answer.output.as_slice()))?)
+}
+
+/// The keys of an independent model, over families whose XOF repeats three bytes.
+#[test]
+fn families_have_their_keys(rt: HostRuntime) -> Result<(), Fail> {
+    assert_eq!(rt;
+        key_digest::<Repeats<Zeros>>(rt.alloc())?.as_str(),
+        "41a257ecb2f65ba6810bc8eadfda3b5a679fa9b0fcbe58cc98ee1f79b4b7c32f"
+    );
+    assert_eq!(rt;
+        key_digest::<Repeats<SmallAndFifty>>(rt.alloc())?.as_str(),
+        "af65637c12590a01f31b7fdf30f0a1eeef9907b7c8f5664b9eca395818bdd426"
+    );
+    assert_eq!(rt;
+        key_digest::<Repeats<AboutModulus>>(rt.alloc())?.as_str(),
+        "5c5475daf9ec25db72b8ebd07cb3e385efe970b7f2509e7c4cab013344e385a3"
+    );
+    Ok(())
+}
+
+/// What `open` answers for an encapsulated key of zeros and no message.
+fn zero_answer<H: KemHash>(alloc: Global) -> Result<Answer, Fail> {
+    let mut src = CleanSource::new(input(alloc, ZERO_INPUT)?);
+    Ok(run_by::<H, CleanSource>(alloc, OPEN, &mut src, &[])?)
+}
+
+#[test]
+fn families_open_a_mail(rt: HostRuntime) -> Result<(), Fail> {
+    for answer in [
+        zero_answer::<Repeats<Zeros>>(rt.alloc())?,
+        zero_answer::<Repeats<SmallAndFifty>>(rt.alloc())?,
+        zero_answer::<Repeats<AboutModulus>>(rt.alloc())?,
+    ] {
+        assert_eq!(rt; answer.status, 0);
+        assert!(rt; answer.output.is_empty());
+    }
+    Ok(())
+}
+
+/// Where no seed gives a key both commands say so, and read the seed and the info alone.
+#[test]
+fn a_seed_without_a_key_is_told(rt: HostRuntime) -> Result<(), Fail> {
+    for (command, reads) in [(OPEN, 130), ("key 768", 129)] {
+        let bytes = input(rt.alloc(), ZERO_INPUT)?;
+        let mut src = MemSource::new(bytes, WHOLE, Vec::new(rt.alloc()));
+        let answer = run_by::<Repeats<Ones>, MemSource>(rt.alloc(), command, &mut src, &[])?;
+        assert_eq!(rt; answer.status, 3);
+        assert_eq!(rt; answer.output.as_slice(), b"! XofExhausted\n".as_slice());
+        assert_eq!(rt; src.reads(), reads);
+    }
     Ok(())
 }
 

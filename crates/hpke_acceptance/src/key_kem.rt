@@ -33,7 +33,7 @@ fn secret<const ID: u16>(key: &MaskKey) -> SharedSecret<KeyKem<ID>>
 }
 
 impl<const ID: u16> Kem for KeyKem<ID> {
-    ghost use Rattle.acceptance.specs.KeyKem.{key_decap, key_encap};
+    ghost use Rattle.hpke_acceptance.specs.KeyKem.{key_decap, key_encap};
     ghost use Rattle.hpke.specs.Mask.{mask_derive, mask_public};
 
     type PublicKey = MaskKey;
@@ -90,7 +90,7 @@ impl<const ID: u16> Kem for KeyKem<ID> {
 
     ghost use Rattle.std.proofs.Common.{refl};
     ghost use Rattle.hpke.specs.MaskLaws.{mask_derive-pair};
-    ghost use Rattle.acceptance.specs.KeyKemLaws.{key_decap-size, key_encap-size};
+    ghost use Rattle.hpke_acceptance.specs.KeyKemLaws.{key_decap-size, key_encap-size};
 
     ghost derive_pair = { mask_derive-pair };
 

@@ -1,8 +1,8 @@
 //! Each suite of HPKE in each mode, by the calls of both sides' contexts, against the key schedules of
 //! an independent model.
 
-use crate::hpke_rows::{AeadName, KdfName, ROWS, Row};
 use crate::key_kem::KeyKem;
+use crate::rows::{AeadName, KdfName, ROWS, Row};
 use hpke::{
     Aead, AeadCtxR, AeadCtxS, AesGcm128, AesGcm256, BaseAead, Deserializable, ExportOnlyAead,
     HkdfSha256, HkdfSha384, HkdfSha512, HpkeError, Kdf, MaskKey, OpModeR, OpModeS, PskBundle,
