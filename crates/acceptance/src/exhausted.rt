@@ -1,6 +1,6 @@
 //! What `LatticeKem` refuses over a family for which no seed gives a key.
 
-use crate::families::{Ones, Repeats};
+use hash_families::{Ones, RepeatingHash};
 use hpke::{Deserializable, HpkeError, Kem, LatticeKem, LatticePrivateKey};
 use ml_kem::MlKem768;
 use rand_chacha::ChaCha20Rng;
@@ -9,7 +9,7 @@ use std::alloc::Global;
 use std::test::Fail;
 
 /// The KEM over that family.
-type Exhausted = LatticeKem<MlKem768, Repeats<Ones>>;
+type Exhausted = LatticeKem<MlKem768, RepeatingHash<Ones>>;
 
 // What a draw of keys is refused with, and how many words of the generator are gone then.
 fn drawing<K: Kem>(alloc: Global) -> (Option<HpkeError>, u128) {
@@ -31,7 +31,10 @@ fn seeds_are_refused(rt: HostRuntime) -> Result<(), Fail> {
     let refused = Some(HpkeError::ValidationError);
     let derived = Exhausted::derive_keypair(rt.alloc(), &[7; 64]).err();
     assert_eq!(rt; derived, refused);
-    let read = LatticePrivateKey::<MlKem768, Repeats<Ones>>::from_bytes(rt.alloc(), &[0; 64]).err();
+    let read = LatticePrivateKey::<MlKem768, RepeatingHash<Ones>>::from_bytes(
+        rt.alloc(),
+        &[0; 64],
+    ).err();
     assert_eq!(rt; read, refused);
     assert_eq!(rt; drawing::<Exhausted>(rt.alloc()), (refused, 16));
     Ok(())

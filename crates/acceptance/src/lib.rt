@@ -4,8 +4,6 @@
 #[cfg(test)]
 mod exhausted;
 #[cfg(test)]
-mod families;
-#[cfg(test)]
 mod mails;
 #[cfg(test)]
 mod runs;

@@ -1,12 +1,12 @@
 //! Whole runs over memory, and the calls below them, by their tables.
 
-use crate::families::{AboutModulus, Ones, Repeats, SmallAndFifty, Zeros};
 use crate::mails::OPENED;
 use crate::runs::{
     DONE_INPUT, FAULTY_RUNS, KEYS, MESSAGES_INPUT, NO_COMMANDS, Part, ZERO_INPUT, ZERO_MAIL,
     ZERO_SEED, heads, opened_mails, refusals,
 };
 use age_core::outside::{CleanSource, MemSink, MemSource, Source};
+use hash_families::{AboutModulus, Ones, RepeatingHash, SmallAndFifty, Zeros};
 use hpke::{AesGcm256, Deserializable, HkdfSha256, MaskKem, MaskKey};
 use kem_hash::{KemHash, Sha2Hash};
 use kem_mail::laws::{headline, headline_over_memory};
@@ -162,7 +162,7 @@ fn open_zero_mail<H: KemHash>(
 #[test]
 fn a_seed_gives_a_key_or_none(rt: HostRuntime) -> Result<(), Fail> {
     let mut src = MemSource::new(input(rt.alloc(), ZERO_MAIL)?, WHOLE, Vec::new(rt.alloc()));
-    let refused = open_zero_mail::<Repeats<Ones>>(rt.alloc(), &mut src);
+    let refused = open_zero_mail::<RepeatingHash<Ones>>(rt.alloc(), &mut src);
     assert_eq!(rt; refused.err(), Some(MailError::XofExhausted));
     assert_eq!(rt; src.reads(), 0);
     let opened = open_zero_mail::<Sha2Hash>(rt.alloc(), &mut src);
@@ -182,15 +182,15 @@ fn key_digest<H: KemHash>(alloc: Global) -> Result<String, Fail> {
 #[test]
 fn families_have_their_keys(rt: HostRuntime) -> Result<(), Fail> {
     assert_eq!(rt;
-        key_digest::<Repeats<Zeros>>(rt.alloc())?.as_str(),
+        key_digest::<RepeatingHash<Zeros>>(rt.alloc())?.as_str(),
         "41a257ecb2f65ba6810bc8eadfda3b5a679fa9b0fcbe58cc98ee1f79b4b7c32f"
     );
     assert_eq!(rt;
-        key_digest::<Repeats<SmallAndFifty>>(rt.alloc())?.as_str(),
+        key_digest::<RepeatingHash<SmallAndFifty>>(rt.alloc())?.as_str(),
         "af65637c12590a01f31b7fdf30f0a1eeef9907b7c8f5664b9eca395818bdd426"
     );
     assert_eq!(rt;
-        key_digest::<Repeats<AboutModulus>>(rt.alloc())?.as_str(),
+        key_digest::<RepeatingHash<AboutModulus>>(rt.alloc())?.as_str(),
         "5c5475daf9ec25db72b8ebd07cb3e385efe970b7f2509e7c4cab013344e385a3"
     );
     Ok(())
@@ -205,9 +205,9 @@ fn zero_answer<H: KemHash>(alloc: Global) -> Result<Answer, Fail> {
 #[test]
 fn families_open_a_mail(rt: HostRuntime) -> Result<(), Fail> {
     for answer in [
-        zero_answer::<Repeats<Zeros>>(rt.alloc())?,
-        zero_answer::<Repeats<SmallAndFifty>>(rt.alloc())?,
-        zero_answer::<Repeats<AboutModulus>>(rt.alloc())?,
+        zero_answer::<RepeatingHash<Zeros>>(rt.alloc())?,
+        zero_answer::<RepeatingHash<SmallAndFifty>>(rt.alloc())?,
+        zero_answer::<RepeatingHash<AboutModulus>>(rt.alloc())?,
     ] {
         assert_eq!(rt; answer.status, 0);
         assert!(rt; answer.output.is_empty());
@@ -221,7 +221,7 @@ fn a_seed_without_a_key_is_told(rt: HostRuntime) -> Result<(), Fail> {
     for (command, reads) in [(OPEN, 130), ("key 768", 129)] {
         let bytes = input(rt.alloc(), ZERO_INPUT)?;
         let mut src = MemSource::new(bytes, WHOLE, Vec::new(rt.alloc()));
-        let answer = run_by::<Repeats<Ones>, MemSource>(rt.alloc(), command, &mut src, &[])?;
+        let answer = run_by::<RepeatingHash<Ones>, MemSource>(rt.alloc(), command, &mut src, &[])?;
         assert_eq!(rt; answer.status, 3);
         assert_eq!(rt; answer.output.as_slice(), b"! XofExhausted\n".as_slice());
         assert_eq!(rt; src.reads(), reads);

@@ -8,6 +8,7 @@ pub mod key_derivation;
 pub mod multiplied_polynomials;
 pub mod opened_mails;
 pub mod rejected_secrets;
+pub mod repeated_samples;
 pub mod sealed_contexts;
 pub mod sealed_records;
 pub mod sent_secrets;

@@ -18,5 +18,3 @@ pub mod Answers
 pub mod Encapsulation
 -- what a decapsulation key holds, and its expanded form
 pub mod Expanded
--- a family of hash functions for tests, with its laws: no public clause cites it
-pub mod Families

@@ -4,7 +4,6 @@
 mod decapsulation;
 mod encapsulation;
 mod expanded;
-mod families;
 mod sampling;
 mod zero_draw;
 

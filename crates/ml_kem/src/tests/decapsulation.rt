@@ -1,8 +1,8 @@
 //! Keys from a seed and decapsulation, at each set: cases of an independent model that was written from
 //! the standard in another language. Bytes are in hex; encapsulation keys are compared by their SHA-256.
 
-use crate::tests::families::{Ones, Repeats};
 use crate::{Ciphertext, DecapsulationKey, KemError, MlKem512, MlKem768, MlKem1024, ParameterSet};
+use hash_families::{Ones, RepeatingHash};
 use kem_hash::{KemHash, Sha2Hash};
 use sha2::{Digest, Sha256};
 use std::alloc::Global;
@@ -129,7 +129,10 @@ fn key_of_a_seed_at_1024(rt: HostRuntime) -> Result<(), Fail> {
 
 #[test]
 fn an_exhausted_xof_gives_no_key(rt: HostRuntime) -> Result<(), Fail> {
-    let refused = DecapsulationKey::<MlKem512, Repeats<Ones>>::from_seed(rt.alloc(), &[0; 64]);
+    let refused = DecapsulationKey::<MlKem512, RepeatingHash<Ones>>::from_seed(
+        rt.alloc(),
+        &[0; 64],
+    );
     assert!(rt; matches!(refused, Err(KemError::XofExhausted)));
     let key = DecapsulationKey::<MlKem512, Sha2Hash>::from_seed(rt.alloc(), &[7; 64])?;
     assert_eq!(rt; key.to_seed().ok_or("no seed")?, [7; 64]);

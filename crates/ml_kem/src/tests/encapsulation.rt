@@ -2,12 +2,12 @@
 //! that was written from the standard in another language. Bytes are in hex; long ones are compared by
 //! their SHA-256.
 
-use crate::tests::families::{Ones, Repeats};
 use crate::tests::zero_draw::ZeroDraw;
 use crate::{
     Ciphertext, CiphertextError, EncapsulationKey, KemError, KeyError, MlKem512, MlKem768,
     MlKem1024, ParameterSet,
 };
+use hash_families::{Ones, RepeatingHash};
 use kem_hash::{KemHash, Sha2Hash};
 use sha2::{Digest, Sha256};
 use std::alloc::Global;
@@ -112,7 +112,7 @@ fn groups_of_3329_are_refused(rt: HostRuntime) -> Result<(), Fail> {
 
 #[test]
 fn an_exhausted_xof_is_refused(rt: HostRuntime) -> Result<(), Fail> {
-    let ek = EncapsulationKey::<MlKem512, Repeats<Ones>>::new(rt.alloc(), &[0; 800])?;
+    let ek = EncapsulationKey::<MlKem512, RepeatingHash<Ones>>::new(rt.alloc(), &[0; 800])?;
     let refused = ek.encapsulate_deterministic(&[0; 32]);
     assert!(rt; matches!(refused, Err(KemError::XofExhausted)));
     let drawn = ek.encapsulate_with_rng(&mut ZeroDraw);

@@ -1,12 +1,12 @@
 //! Expanded forms and drawn keys. The hash of the zero seed's form comes from an independent model that
 //! was written from the standard in another language.
 
-use crate::tests::families::{Ones, Repeats};
 use crate::tests::zero_draw::ZeroDraw;
 use crate::{
     DecapsulationKey, DecapsulationKey1024, EncapsulationKey512, EncapsulationKey768, KemError,
     KeyError, MlKem512, MlKem768, ParameterSet, ml_kem_512, ml_kem_768, ml_kem_1024,
 };
+use hash_families::{Ones, RepeatingHash};
 use kem_hash::{KemHash, Sha2Hash};
 use sha2::{Digest, Sha256};
 use std::alloc::Global;
@@ -110,7 +110,10 @@ fn draws_the_seed(rt: HostRuntime) -> Result<(), Fail> {
     put(&mut seed, 63, 1);
     let [drawn, cloned, same_public, same_key] = draws_zeros::<MlKem512, Sha2Hash>(alloc, &seed)?;
     assert!(rt; drawn && cloned && same_public && !same_key);
-    let refused = DecapsulationKey1024::<Repeats<Ones>>::generate_from_rng(alloc, &mut ZeroDraw);
+    let refused = DecapsulationKey1024::<RepeatingHash<Ones>>::generate_from_rng(
+        alloc,
+        &mut ZeroDraw,
+    );
     assert!(rt; matches!(refused, Err(KemError::XofExhausted)));
     Ok(())
 }

@@ -1,8 +1,8 @@
 //! Sampling: worked values, and cases of an independent model that was written from the standard in
 //! another language. Bytes are in hex.
 
-use crate::tests::families::{AboutModulus, Ones, Repeats, SmallAndFifty, Zeros};
 use crate::{sample_ntt, sample_poly_cbd};
+use hash_families::{AboutModulus, Ones, RepeatingHash, SmallAndFifty, Zeros};
 use kem_hash::{KemHash, Sha2Hash};
 use std::test::Fail;
 
@@ -17,9 +17,12 @@ fn sample<H: KemHash>(rho: &[u8; 32], a: u8, b: u8) -> [u32; 256] {
 #[test]
 fn samples_of_repeated_bytes(rt: HostRuntime) {
     let rho = [7; 32];
-    assert_eq!(rt; sample::<Repeats<Zeros>>(&rho, 1, 2), [0; 256]);
-    assert_eq!(rt; sample::<Repeats<AboutModulus>>(&rho, 1, 2), [3328; 256]);
-    let small_and_fifty = sample::<Repeats<SmallAndFifty>>(&rho, 1, 2);
+    assert_eq!(rt; sample::<RepeatingHash<Zeros>>(&rho, 1, 2), [0; 256]);
+    assert_eq!(rt;
+        sample::<RepeatingHash<AboutModulus>>(&rho, 1, 2),
+        [3328; 256]
+    );
+    let small_and_fifty = sample::<RepeatingHash<SmallAndFifty>>(&rho, 1, 2);
     for i in 0..128 {
         assert_eq!(rt;
             [small_and_fifty[2 * i], small_and_fifty[2 * i + 1]],
@@ -27,7 +30,7 @@ fn samples_of_repeated_bytes(rt: HostRuntime) {
             "pair {i}"
         );
     }
-    assert!(rt; sample_ntt::<Repeats<Ones>>(&rho, 1, 2).is_none());
+    assert!(rt; sample_ntt::<RepeatingHash<Ones>>(&rho, 1, 2).is_none());
 }
 
 #[test]

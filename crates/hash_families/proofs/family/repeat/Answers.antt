@@ -1,6 +1,6 @@
 use Rattle.std.proofs.Common.{rules, ◌∙◌, arith}
 use Rattle.kem_hash.proofs.Joined.{digest_written, digests_written}
-use Rattle.ml_kem.proofs.tests.families.repeat.Goals as goal
+use Rattle.hash_families.proofs.family.repeat.Goals as goal
 
 pub loop-t-preserved : goal.loop-t-preserved
 loop-t-preserved g c =

@@ -1,8 +1,8 @@
 use Rattle.std.proofs.Common.{◌≡◌, ℕ, ◌+◌, ◌-◌, ◌*◌, List, take, drop, sym, ap, ◌∙◌, arith}
 use Rattle.std.specs.List.{flat_map, range_with_len}
 use Rattle.kem_hash.proofs.Joined.{part-joined}
-use Rattle.ml_kem.specs.Families.{same-joined}
-use Rattle.ml_kem.proofs.tests.families.RepeatsKemHash.xof_block.Goals as goal
+use Rattle.hash_families.specs.Repeating.{same-joined}
+use Rattle.hash_families.proofs.family.RepeatingHashKemHash.xof_block.Goals as goal
 
 pub returns : goal.returns
 returns g c =

@@ -1,4 +1,4 @@
--- The family of hash functions whose XOF repeats three bytes, for tests. No public clause cites it.
+-- The family of hash functions whose XOF repeats three bytes, and that it is lawful.
 use Rattle.std.proofs.Common.{◌≡◌, ℕ, ◌*◌, ◌<◌, ◌∙◌, List, [], ◌∷◌, ◌++◌, refl, ap, ap₂, arith, zero, suc, ◌+◌, length-append}
 use Rattle.std.specs.List.{flat_map, range_with_len}
 use Rattle.std.proofs.lemmas.List.Elements.{All-append, All-cons, All-nil}
@@ -6,6 +6,7 @@ use Rattle.kem_hash.specs.Family.{AreBytes, Family, IsLawful}
 use Rattle.kem_hash.specs.Sha2.{sha2_family}
 use Rattle.kem_hash.specs.Sha2Laws.{sha2_family-is_lawful}
 
+-- the other functions are those of SHA-2; XOF has 2688 bytes
 abbrev pub repeating_family : List ℕ → Family
 repeating_family bytes = record sha2_family { xof_of = λ rho a b. flat_map (λ i. bytes) (range_with_len 0 896) }
 

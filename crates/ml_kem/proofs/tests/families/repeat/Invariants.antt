@@ -1,6 +1,0 @@
-use Rattle.std.proofs.Common.{◌≡◌, ◌*◌, take}
-use Rattle.std.specs.List.{flat_map, range_with_len}
-use Rattle.ml_kem.proofs.tests.families.repeat.Given as goal
-
-abbrev pub invariant-loop-t : goal.invariant-loop-t
-invariant-loop-t g l = take (3 * l.t) l.out ≡ flat_map (λ i. g.P.Pattern.bytes) (range_with_len 0 l.t)
