@@ -1,7 +1,7 @@
 //! What `LatticeKem` refuses over a family for which no seed gives a key.
 
 use hash_families::{Ones, RepeatingHash};
-use hpke::{Deserializable, HpkeError, Kem, LatticeKem, LatticePrivateKey};
+use hpke::{Deserializable, HpkeError, Kem, LatticeKem, LatticePrivateKey, LatticePublicKey};
 use ml_kem::MlKem768;
 use rand_chacha::ChaCha20Rng;
 use rand_core::SeedableRng;
@@ -19,10 +19,10 @@ fn drawing<K: Kem>(alloc: Global) -> (Option<HpkeError>, u128) {
 }
 
 // What encapsulation to a public key of these bytes is refused with, and how many words are gone then.
-fn encapsulation<K: Kem>(alloc: Global, pk: &[u8]) -> Result<(Option<HpkeError>, u128), Fail> {
-    let pk = K::PublicKey::from_bytes(alloc, pk)?;
+fn encapsulation(alloc: Global, pk: &[u8]) -> Result<(Option<HpkeError>, u128), Fail> {
+    let pk = LatticePublicKey::<MlKem768, RepeatingHash<Ones>>::from_bytes(alloc, pk)?;
     let mut csprng = ChaCha20Rng::from_seed([7; 32]);
-    let made = K::encap(alloc, &pk, None, None, &mut csprng).err();
+    let made = Exhausted::encap(alloc, &pk, None, None, &mut csprng).err();
     Ok((made, csprng.get_word_pos()))
 }
 
@@ -43,7 +43,7 @@ fn seeds_are_refused(rt: HostRuntime) -> Result<(), Fail> {
 // A public key of zeros is one, and its matrix has no samples.
 #[test]
 fn encapsulations_are_refused(rt: HostRuntime) -> Result<(), Fail> {
-    let made = encapsulation::<Exhausted>(rt.alloc(), &[0; 1184])?;
+    let made = encapsulation(rt.alloc(), &[0; 1184])?;
     assert_eq!(rt; made, (Some(HpkeError::EncapError), 8));
     Ok(())
 }

@@ -17,6 +17,9 @@ use std::test::Fail;
 /// ML-KEM over the family by SHA-2.
 type Lattice<P> = LatticeKem<P, Sha2Hash>;
 
+/// The KEM of one set.
+type Lattice768 = Lattice<MlKem768>;
+
 /// A derived pair, in hex: the input keying material, the seed and the SHA-256 of the public key.
 type Row = [&'static str; 3];
 
@@ -262,35 +265,35 @@ fn refused_encapsulated_keys(rt: HostRuntime) -> Result<(), Fail> {
 
 // Whether a recipient finds the sender's secret, also of an encapsulated key that is read from its
 // bytes.
-fn finds_the_secret<K: Kem>(alloc: Global) -> Result<bool, Fail> {
+fn finds_the_secret(alloc: Global) -> Result<bool, Fail> {
     let mut rng = ChaCha20Rng::from_seed([9; 32]);
-    let (sk, pk) = K::gen_keypair(alloc, &mut rng)?;
-    let (sent, encapped) = K::encap(alloc, &pk, None, None, &mut rng)?;
+    let (sk, pk) = Lattice768::gen_keypair(alloc, &mut rng)?;
+    let (sent, encapped) = Lattice768::encap(alloc, &pk, None, None, &mut rng)?;
     let bytes = bytes_of(alloc, &encapped)?;
-    let read = K::EncappedKey::from_bytes(alloc, bytes.as_slice())?;
-    let found = K::decap(alloc, &sk, None, &read)?;
+    let read = Ciphertext::<MlKem768>::from_bytes(alloc, bytes.as_slice())?;
+    let found = Lattice768::decap(alloc, &sk, None, &read)?;
     Ok(found.as_slice() == sent.as_slice())
 }
 
 #[test]
 fn secrets_are_found(rt: HostRuntime) -> Result<(), Fail> {
-    assert!(rt; finds_the_secret::<Lattice<MlKem768>>(rt.alloc())?);
+    assert!(rt; finds_the_secret(rt.alloc())?);
     Ok(())
 }
 
 // What a sender with an identity is refused with, and a recipient that is told of one.
-fn identity_refusals<K: Kem>(alloc: Global) -> Result<[Option<HpkeError>; 2], Fail> {
+fn identity_refusals(alloc: Global) -> Result<[Option<HpkeError>; 2], Fail> {
     let mut rng = ChaCha20Rng::from_seed([9; 32]);
-    let (sk, pk) = K::gen_keypair(alloc, &mut rng)?;
-    let (_, encapped) = K::encap(alloc, &pk, None, None, &mut rng)?;
-    let sending = K::encap(alloc, &pk, Some(&sk), Some(&pk), &mut rng).err();
-    let receiving = K::decap(alloc, &sk, Some(&pk), &encapped).err();
+    let (sk, pk) = Lattice768::gen_keypair(alloc, &mut rng)?;
+    let encapped = Ciphertext::<MlKem768>::from_bytes(alloc, &[0; 1088])?;
+    let sending = Lattice768::encap(alloc, &pk, Some(&sk), Some(&pk), &mut rng).err();
+    let receiving = Lattice768::decap(alloc, &sk, Some(&pk), &encapped).err();
     Ok([sending, receiving])
 }
 
 #[test]
 fn identities_are_refused(rt: HostRuntime) -> Result<(), Fail> {
-    let refused = identity_refusals::<Lattice<MlKem768>>(rt.alloc())?;
+    let refused = identity_refusals(rt.alloc())?;
     let want = [Some(HpkeError::EncapError), Some(HpkeError::DecapError)];
     assert_eq!(rt; refused, want);
     Ok(())
