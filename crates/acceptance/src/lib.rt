@@ -2,8 +2,6 @@
 #![tactic(auto)]
 
 #[cfg(test)]
-mod exhausted;
-#[cfg(test)]
 mod mails;
 #[cfg(test)]
 mod runs;

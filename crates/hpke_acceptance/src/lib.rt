@@ -2,6 +2,8 @@
 #![tactic(auto)]
 
 #[cfg(test)]
+mod exhausted;
+#[cfg(test)]
 mod key_kem;
 #[cfg(test)]
 mod lattice_kem;
