@@ -11,3 +11,4 @@ pub mod HalfBytes
 pub mod Rounds
 pub mod Shifts
 pub mod Sums
+pub mod Reversal

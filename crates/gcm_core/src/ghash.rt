@@ -1,14 +1,16 @@
 // GHASH over associated data and a ciphertext (SP 800-38D, section 6.4).
 
-ghost use Rattle.std.specs.Prelude.{◌≡◌, ◌+◌, ◌*◌, ◌/◌, ◌%◌, ◌^◌, ◌<◌, ◌++◌, bit_xor, drop, length, take};
-ghost use Rattle.std.specs.Int.{div_ceil, to_be_bytes, w64};
+ghost use Rattle.std.specs.Prelude.{◌≡◌, ◌+◌, ◌*◌, ◌/◌, ◌%◌, ◌^◌, ◌<◌, ◌++◌, bit_xor, drop, length, map, take};
+ghost use Rattle.std.specs.Int.{div_ceil, reverse_bits, to_be_bytes, w8, w64};
 ghost use Rattle.gcm_core.specs.FieldMul.{times_x};
 ghost use Rattle.gcm_core.specs.Gcm.{authenticated, padded};
 ghost use Rattle.gcm_core.specs.Ghash.{block_of, block_product, continued, polynomial_of, polynomials, reduction_block, weighted_sum};
 
 use crate::aes::{BLOCK_LEN, Block};
-use crate::hash_key::HashKey;
+use crate::hash_key::{HashKey, number_of};
+use crate::nibbles::{HALF_BITS, LOW_HALF, look_up};
 use ct_choice::Choice;
+use std::simd::prelude::*;
 
 // The coefficients of an element of GF(2^128).
 const DEGREE: u32 = 128;
@@ -21,6 +23,16 @@ const BYTE_BITS: u64 = 8;
 
 // The bytes of each length in the last block.
 const LENGTH_LEN: usize = 8;
+
+// What a low half byte brings to the byte with all bits in reverse order.
+const REVERSED_LOW: [u8; 16] = [
+    0x00, 0x80, 0x40, 0xc0, 0x20, 0xa0, 0x60, 0xe0, 0x10, 0x90, 0x50, 0xd0, 0x30, 0xb0, 0x70, 0xf0,
+];
+
+// What a high half byte brings to it.
+const REVERSED_HIGH: [u8; 16] = [
+    0x00, 0x08, 0x04, 0x0c, 0x02, 0x0a, 0x06, 0x0e, 0x01, 0x09, 0x05, 0x0d, 0x03, 0x0b, 0x07, 0x0f,
+];
 
 fn times_x(p: u128) -> u128
     ensures { result ≡ times_x 128 reduction_block p }
@@ -43,11 +55,27 @@ pub(crate) fn byte_times(a: u128, b: u128) -> u128
     product
 }
 
-// The polynomial of a block, whose bit i is the coefficient of x^i.
+// Each byte with its bits in reverse order.
+#[inline(always)]
+fn reversed_bits(bytes: u8x16) -> u8x16
+    ensures { result ≡ map (reverse_bits w8) bytes }
+{
+    look_up(
+        u8x16::from_array(REVERSED_LOW),
+        bytes & u8x16::splat(LOW_HALF),
+    ) ^ look_up(
+        u8x16::from_array(REVERSED_HIGH),
+        bytes >> u8x16::splat(HALF_BITS),
+    )
+}
+
+// The polynomial of a block, whose bit i is the coefficient of x^i: the bits of each byte are
+// reversed, and the first byte is the lowest.
+#[inline(always)]
 pub(crate) fn polynomial_of(block: Block) -> u128
     ensures { result ≡ polynomial_of block }
 {
-    u128::from_be_bytes(block).reverse_bits()
+    number_of(reversed_bits(u8x16::from_array(block)))
 }
 
 fn block_of(polynomial: u128) -> Block

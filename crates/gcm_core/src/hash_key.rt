@@ -82,7 +82,7 @@ fn lanes_of(n: u128) -> u8x16
 
 // The number of the bytes in lanes, the lowest first.
 #[inline(always)]
-fn number_of(lanes: u8x16) -> u128
+pub(crate) fn number_of(lanes: u8x16) -> u128
     ensures { result ≡ number_l 256 lanes }
 {
     let words = u64x2::from_le_bytes(lanes).to_array();
