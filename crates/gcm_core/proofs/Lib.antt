@@ -12,3 +12,4 @@ pub mod Rounds
 pub mod Shifts
 pub mod Sums
 pub mod Reversal
+pub mod Moved

@@ -92,16 +92,19 @@ fn absorb_block(key: &HashKey, sum: u128, block: Block) -> u128
     key.times(sum ^ polynomial_of(block))
 }
 
-// The block of the bytes from `start` on, with zeros behind a short one.
+// The block of the bytes from `start` on, with zeros behind a short one. A whole block is read at once.
+#[inline(always)]
 fn padded_block(bytes: &[u8], start: usize) -> Block
     requires within { start < length bytes.now }
     requires at_block { start % 16 ≡ 0 }
     ensures { result ≡ take 16 (drop start (padded bytes.now)) }
 {
-    let mut block = [0; BLOCK_LEN];
     let rest = &bytes[start..];
-    let count = rest.len().min(BLOCK_LEN);
-    block[..count].copy_from_slice(&rest[..count]);
+    if rest.len() >= BLOCK_LEN {
+        return u8x16::from_slice(rest).to_array();
+    }
+    let mut block = [0; BLOCK_LEN];
+    block[..rest.len()].copy_from_slice(rest);
     block
 }
 

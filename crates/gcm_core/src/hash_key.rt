@@ -5,7 +5,7 @@
 // by the byte's place. Row b holds byte b of the products of the 16 low half bytes, and then of the 16
 // high ones; looked up at all bytes of the factor together it gives byte b of each byte's product.
 
-ghost use Rattle.std.specs.Prelude.{◌≡◌, ◌+◌, ◌*◌, ◌^◌, ◌<◌, ℕ, length, map, slice_index};
+ghost use Rattle.std.specs.Prelude.{◌≡◌, ◌+◌, ◌*◌, ◌/◌, ◌%◌, ◌^◌, ◌<◌, ℕ, bit_xor, length, map, slice_index};
 ghost use Rattle.std.specs.Simd.Lanes.{Each1, number_l};
 ghost use Rattle.gcm_core.specs.Ghash.{block_product};
 ghost use Rattle.gcm_core.specs.Rows.{IsRows, byte_of, factor_of, row_at};
@@ -23,6 +23,11 @@ const ROW_LEN: usize = 2 * HALVES;
 
 // One row for each byte of a product.
 const ROWS_LEN: usize = BLOCK_LEN * ROW_LEN;
+
+// The places of two vectors, one behind the other, from the last lane of the first one on.
+const FROM_LAST: [usize; BLOCK_LEN] = [
+    15, 16, 17, 18, 19, 20, 21, 22, 23, 24, 25, 26, 27, 28, 29, 30,
+];
 
 // What the upper half of a product is worth.
 const WORD: u128 = 1 << 64;
@@ -89,11 +94,28 @@ pub(crate) fn number_of(lanes: u8x16) -> u128
     words[1] as u128 * WORD + words[0] as u128
 }
 
+// The number in lanes moved up by a byte, with the highest byte of `below` at the lowest place.
+#[inline(always)]
+fn moved_up(below: u8x16, lanes: u8x16) -> u8x16
+    ensures { number_l 256 result ≡ bit_xor (number_l 256 lanes * 256 % 2 ^ 128) (number_l 256 below / 2 ^ 120) }
+{
+    below.shuffle(lanes, FROM_LAST)
+}
+
+// The sum of two numbers in lanes.
+#[inline(always)]
+fn sum_of(a: u8x16, b: u8x16) -> u8x16
+    ensures { number_l 256 result ≡ bit_xor (number_l 256 a) (number_l 256 b) }
+{
+    a ^ b
+}
+
 // What a row gives of all bytes of a factor.
 #[inline(always)]
-fn row_sum(rows: &[u8; ROWS_LEN], b: usize, lanes: u8x16) -> u128
+fn row_sum(rows: &[u8; ROWS_LEN], b: usize, lanes: u8x16) -> u8x16
     requires { b < 16 }
-    ensures { result ≡ number_l 256 (map (row_at rows.now b) lanes) }
+    ensures sum { number_l 256 result ≡ number_l 256 (map (row_at rows.now b) lanes) }
+    ensures small { number_l 256 result < 2 ^ 128 }
 {
     let start = ROW_LEN * b;
     let low = look_up(
@@ -104,7 +126,7 @@ fn row_sum(rows: &[u8; ROWS_LEN], b: usize, lanes: u8x16) -> u128
         u8x16::from_slice(&rows[start + HALVES..]),
         lanes >> u8x16::splat(HALF_BITS),
     );
-    number_of(low ^ high)
+    low ^ high
 }
 
 impl HashKey {
@@ -126,13 +148,16 @@ impl HashKey {
         ensures within { self.now < 2 ^ 128 }
     {
         let lanes = lanes_of(element);
-        let mut low = row_sum(&self.rows, BLOCK_LEN - 1, lanes);
-        let mut high: u128 = 0;
+        let zero = u8x16::splat(0);
+        let mut lower = row_sum(&self.rows, BLOCK_LEN - 1, lanes);
+        let mut upper = zero;
         for j in 0..BLOCK_LEN - 1 {
             let row = row_sum(&self.rows, BLOCK_LEN - 2 - j, lanes);
-            high = (high << 8) ^ (low >> 120);
-            low = (low << 8) ^ row;
+            upper = moved_up(lower, upper);
+            lower = sum_of(moved_up(zero, lower), row);
         }
+        let low = number_of(lower);
+        let high = number_of(upper);
         low ^ (high ^ ((high << 1) ^ ((high << 2) ^ (high << 7))))
     }
 }
