@@ -4,7 +4,7 @@ use Rattle.std.specs.Prelude.{Bool, true, false, bit_xor, if◌then◌else◌}
 use Rattle.std.specs.Int.{div_ceil, to_be_bytes, w64}
 use Rattle.std.proofs.lemmas.Bool.{cases_lt, false≢true}
 use Rattle.std.proofs.lemmas.Nat.{pow-add, pow_pos, shr-shr}
-use Rattle.std.proofs.lemmas.List.{append_assoc, drop-append-le, drop-drop, length-replicate, take-append-le, take_all, nil_from_length}
+use Rattle.std.proofs.lemmas.List.{append_assoc, append-nil, drop-append-le, drop-drop, length-replicate, take-append-le, take_all, nil_from_length}
 use lib.Bits.{xor_assoc, xor_zero_r}
 use Rattle.gcm_core.proofs.Fields.{Reduces, picked, product_of-by_one, product_of-lt, product_of-of_xor, product_of-one, product_of_comm, product_of-more, product_of-next, product_of-xor, product_of-zero, product_of_assoc, times_x-high, times_x-low}
 use Rattle.gcm_core.specs.FieldMul.{product_of, times_x}
@@ -242,3 +242,44 @@ continued-authenticated h s t u aad c l lh es et el lt eu =
     three ∙ ap (λ (k : ℕ). continued h k (polynomial_of l ∷ [])) two ∙ continued-append h 0 (a ++ b) (polynomial_of l ∷ []) lh (omega arith)
     ∙ continued-zero h ((a ++ b) ++ polynomial_of l ∷ []) ∙ ap (λ (z : List ℕ). weighted_sum h ((a ++ b) ++ polynomial_of z ∷ [])) el
     ∙ ap (weighted_sum h) (sym (authenticated-blocks aad c))
+
+-- ---- a text in parts
+
+pub padded-append : (x y : List ℕ) → length x % 16 ≡ 0 → padded (x ++ y) ≡ x ++ padded y
+unfolding padded
+padded-append x y whole =
+    let same : (16 - length (x ++ y) % 16) % 16 ≡ (16 - length y % 16) % 16 = omega (arith, length-append x y) in
+    ap (λ (k : ℕ). (x ++ y) ++ replicate k 0) same ∙ append_assoc x y (replicate ((16 - length y % 16) % 16) 0)
+
+pub padded-blocks : (x : List ℕ) → length x % 16 ≡ 0 → padded x ≡ x
+unfolding padded
+padded-blocks x whole =
+    let none : (16 - length x % 16) % 16 ≡ 0 = omega arith in
+    ap (λ (k : ℕ). x ++ replicate k 0) none ∙ append-nil x
+
+-- the sum over whole blocks
+pub continued-blocks : (h y : ℕ) (x : List ℕ) → length x % 16 ≡ 0
+    → continued h y (polynomials (div_ceil (length x) 16) (padded x)) ≡ continued h y (polynomials (length x / 16) x)
+continued-blocks h y x whole =
+    let count : div_ceil (length x) 16 ≡ length x / 16 = omega arith in
+    ap (λ (k : ℕ). continued h y (polynomials k (padded x))) count ∙ ap (λ (z : List ℕ). continued h y (polynomials (length x / 16) z)) (padded-blocks x whole)
+
+-- the sum over more whole blocks
+pub continued-more : (h y m n : ℕ) (a b : List ℕ) → h < 2 ^ 128 → y < 2 ^ 128 → length a ≡ 16 * m
+    → continued h (continued h y (polynomials m a)) (polynomials n b) ≡ continued h y (polynomials (m + n) (a ++ b))
+continued-more h y m n a b lh ly len =
+    continued-append h y (polynomials m a) (polynomials n b) lh ly ∙ ap (continued h y) (sym (polynomials-append m n a b len))
+
+-- the sum over what is left behind whole blocks
+pub continued-rest : (h y : ℕ) (a r : List ℕ) → h < 2 ^ 128 → y < 2 ^ 128 → length a % 16 ≡ 0
+    → continued h (continued h y (polynomials (length a / 16) a)) (polynomials (div_ceil (length r) 16) (padded r))
+    ≡ continued h y (polynomials (div_ceil (length (a ++ r)) 16) (padded (a ++ r)))
+continued-rest h y a r lh ly whole =
+    let m : ℕ = length a / 16 in
+    let n : ℕ = div_ceil (length r) 16 in
+    let count : div_ceil (length (a ++ r)) 16 ≡ m + n = omega (arith, length-append a r) in
+    continued-more h y m n a (padded r) lh ly (omega arith)
+    ∙ sym (ap (λ (k : ℕ). continued h y (polynomials k (padded (a ++ r)))) count ∙ ap (λ (z : List ℕ). continued h y (polynomials (m + n) z)) (padded-append a r whole))
+
+pub continued-empty : (h y : ℕ) (x : List ℕ) → y < 2 ^ 128 → continued h y (polynomials 0 x) ≡ y
+continued-empty h y x l = ap (continued h y) (polynomials-none x) ∙ continued-none h y l

@@ -13,3 +13,4 @@ pub mod Shifts
 pub mod Sums
 pub mod Reversal
 pub mod Moved
+pub mod Chunks

@@ -99,3 +99,18 @@ unfolding polynomial_of
 polynomial_of-reversed bs len bytes =
     let w : 8 * length bs ≡ 128 = omega arith in
     sym (highest_first-reversed bs bytes) ∙ ap (λ (k : ℕ). reverse_bits_onto k (highest_first bs) 0) w ∙ ap (reverse_bits w128) (sym (highest_first-block bs len))
+
+reverse_bits_onto-lt : (k n a p : ℕ) → a < p → reverse_bits_onto k n a < p * 2 ^ k
+unfolding reverse_bits_onto
+reverse_bits_onto-lt zero n a p h = omega arith
+reverse_bits_onto-lt (suc k) n a p h =
+    let w : 2 ^ suc k ≡ 2 * 2 ^ k = pow-succ' 2 k in
+    let r : reverse_bits_onto k (n / 2) (a * 2 + n % 2) < 2 * p * 2 ^ k = reverse_bits_onto-lt k (n / 2) (a * 2 + n % 2) (2 * p) (omega arith) in
+    rw (doubled p (2 ^ suc k) (2 ^ k) w) r
+  where
+    doubled : (a p q : ℕ) → p ≡ 2 * q → a * p ≡ 2 * a * q
+    doubled a p q e = rw e (grind arith)
+
+pub polynomial_of-lt : (b : List ℕ) → polynomial_of b < 2 ^ 128
+unfolding polynomial_of
+polynomial_of-lt b = omega (arith, reverse_bits_onto-lt 128 (from_be_bytes w128 b) 0 1 (omega arith))

@@ -11,7 +11,7 @@ use Rattle.std.proofs.lemmas.Slice.Eq.{bytes_eq-Decides}
 use Rattle.gcm_core.proofs.Stream.{gctr_blocks-next, gctr_blocks-none, length-xor_bytes, xor_bytes-twice}
 use Rattle.gcm_core.specs.Aes.{add_round_key, aes, cipher, key_expansion, schedule, xor_bytes}
 use Rattle.gcm_core.specs.Gcm.{authenticated, ciphertext_of, fits_limits, gcm_ad, gcm_ae, gctr, gctr_blocks, inc32, is_authentic, j0, sealed_tag, tag_of}
-use Rattle.gcm_core.specs.Ghash.{block_of, ghash}
+use Rattle.gcm_core.specs.Ghash.{block_of, ghash, polynomial_of, polynomials, weighted_sum}
 
 -- ---- the block cipher
 
@@ -256,3 +256,11 @@ gcm_ad-refused ciph nonce aad c t len h =
 -- a key schedule that was made of a key of 32 bytes
 pub take-expanded : (key w : List ℕ) → w ≡ key_expansion key → take (length key) w ≡ key
 take-expanded key w e = ap (take (length key)) e ∙ take-key_expansion key
+
+-- the tag, from the hash of all that it authenticates
+pub tag_of-made : (ciph : List ℕ → List ℕ) (h : ℕ) (nonce aad c hash tag : List ℕ) → h ≡ polynomial_of (ciph (replicate 16 0))
+    → hash ≡ block_of (weighted_sum h (polynomials (length (authenticated aad c) / 16) (authenticated aad c))) → tag ≡ gctr ciph (j0 nonce) hash → tag ≡ tag_of ciph nonce aad c
+unfolding tag_of ghash
+tag_of-made ciph h nonce aad c hash tag eh eb et =
+    let x : List ℕ = authenticated aad c in
+    et ∙ ap (gctr ciph (j0 nonce)) (eb ∙ ap (λ (k : ℕ). block_of (weighted_sum k (polynomials (length x / 16) x))) eh)

@@ -195,29 +195,39 @@ gctr_blocks-four ciph x a b c d f g p q r s w y u v len ef eg ep eq er es eb ec 
     append_assoc w y (u ++ v) ∙ sym (gctr_blocks-next ciph 3 a x ∙ ap (λ (z : List ℕ). xor_bytes (take 16 x) (ciph a) ++ gctr_blocks ciph 3 z (drop 16 x)) (sym eb)
     ∙ ap (λ (z : List ℕ). z ++ gctr_blocks ciph 3 b (drop 16 x)) (ap (λ (z : List ℕ). xor_bytes z (ciph a)) (sym p_is) ∙ sym ew) ∙ ap (λ (z : List ℕ). w ++ z) two)
 
--- one group more
+-- whole blocks from byte a on, written behind those that are done
+pub gctr_blocks-group : (ciph : List ℕ → List ℕ) (a k p q : ℕ) (icb counter next text0 text ys : List ℕ) → a + k ≤ length text0 → a ≡ 16 * p → length text ≡ length text0 → drop a text ≡ drop a text0
+    → take a text ≡ gctr_blocks ciph p icb (take a text0) → counter ≡ counter_after p icb → length ys ≡ k
+    → ys ≡ gctr_blocks ciph q counter (take k (drop a text)) → next ≡ counter_after q counter
+    → (drop (a + k) (put_mid a k text ys) ≡ drop (a + k) text0)
+    × (take (a + k) (put_mid a k text ys) ≡ gctr_blocks ciph (p + q) icb (take (a + k) text0)) × (next ≡ counter_after (p + q) icb)
+gctr_blocks-group ciph a k p q icb counter next text0 text ys fits ea len rest done ec ly ey en =
+    let n : ℕ = a + k in
+    let x : List ℕ = take k (drop a text0) in
+    let behind : drop n (put_mid a k text ys) ≡ drop n text0 =
+    drop-put_mid a k text ys n (omega arith) (omega arith) (omega arith) ∙ ap (λ (j : ℕ). drop j text) (omega arith) ∙ sym (drop-drop k a text) ∙ ap (drop k) rest ∙ drop-drop k a text0
+    ∙ ap (λ (k : ℕ). drop k text0) (omega arith) in
+    let front : take n (put_mid a k text ys) ≡ take a text ++ ys = take-put_mid a k text ys n (omega arith) (omega arith) in
+    let group : ys ≡ gctr_blocks ciph q (counter_after p icb) x =
+    ey ∙ ap (λ (z : List ℕ). gctr_blocks ciph q z (take k (drop a text))) ec ∙ ap (λ (z : List ℕ). gctr_blocks ciph q (counter_after p icb) (take k z)) rest in
+    let whole : take n text0 ≡ take a text0 ++ x = take-add a k text0 in
+    let la : length (take a text0) ≡ 16 * p = length-take a text0 ∙ omega arith in (
+      behind,
+      front ∙ ap (λ (z : List ℕ). z ++ ys) done ∙ ap (λ (z : List ℕ). gctr_blocks ciph p icb (take a text0) ++ z) group
+          ∙ sym (ap (gctr_blocks ciph (p + q) icb) whole ∙ gctr_blocks-append ciph p q icb (take a text0) x la),
+      en ∙ ap (counter_after q) ec ∙ counter_after-add p q icb,
+    )
+
+-- one group of four blocks more
 pub gctr_fours-step : (ciph : List ℕ → List ℕ) (i k : ℕ) (icb counter next text0 text ys : List ℕ) → 64 * i + 64 ≤ length text0 → k ≡ 64 → length text ≡ length text0 → drop (64 * i) text ≡ drop (64 * i) text0
     → take (64 * i) text ≡ gctr_blocks ciph (4 * i) icb (take (64 * i) text0) → counter ≡ counter_after (4 * i) icb → length ys ≡ 64
     → ys ≡ gctr_blocks ciph 4 counter (take k (drop (64 * i) text)) → next ≡ counter_after 4 counter
     → (drop (64 * (i + 1)) (put_mid (64 * i) k text ys) ≡ drop (64 * (i + 1)) text0)
     × (take (64 * (i + 1)) (put_mid (64 * i) k text ys) ≡ gctr_blocks ciph (4 * (i + 1)) icb (take (64 * (i + 1)) text0)) × (next ≡ counter_after (4 * (i + 1)) icb)
 gctr_fours-step ciph i k icb counter next text0 text ys fits ek len rest done ec ly ey en =
-    let a : ℕ = 64 * i in
-    let n : ℕ = 64 * (i + 1) in
-    let x : List ℕ = take 64 (drop a text0) in
-    let behind : drop n (put_mid a k text ys) ≡ drop n text0 =
-    drop-put_mid a k text ys n (omega arith) (omega arith) (omega arith) ∙ ap (λ (j : ℕ). drop j text) (omega arith) ∙ sym (drop-drop 64 a text) ∙ ap (drop 64) rest ∙ drop-drop 64 a text0
-    ∙ ap (λ (k : ℕ). drop k text0) (omega arith) in
-    let front : take n (put_mid a k text ys) ≡ take a text ++ ys = take-put_mid a k text ys n (omega arith) (omega arith) in
-    let group : ys ≡ gctr_blocks ciph 4 (counter_after (4 * i) icb) x = ey ∙ ap (λ (j : ℕ). gctr_blocks ciph 4 counter (take j (drop a text))) ek ∙ ap (λ (z : List ℕ). gctr_blocks ciph 4 z (take 64 (drop a text))) ec ∙ ap (λ (z : List ℕ). gctr_blocks ciph 4 (counter_after (4 * i) icb) (take 64 z)) rest in
-    let whole : take n text0 ≡ take a text0 ++ x = ap (λ (k : ℕ). take k text0) (omega arith) ∙ take-add a 64 text0 in
-    let la : length (take a text0) ≡ 16 * (4 * i) = length-take a text0 ∙ omega arith in
-    let count : 4 * (i + 1) ≡ 4 * i + 4 = omega arith in (
-      behind,
-      front ∙ ap (λ (z : List ℕ). z ++ ys) done ∙ ap (λ (z : List ℕ). gctr_blocks ciph (4 * i) icb (take a text0) ++ z) group
-          ∙ sym (ap (λ (k : ℕ). gctr_blocks ciph k icb (take n text0)) count ∙ ap (gctr_blocks ciph (4 * i + 4) icb) whole ∙ gctr_blocks-append ciph (4 * i) 4 icb (take a text0) x la),
-      en ∙ ap (counter_after 4) ec ∙ counter_after-add (4 * i) 4 icb ∙ ap (λ (k : ℕ). counter_after k icb) (sym count),
-    )
+    let n : 64 * (i + 1) ≡ 64 * i + k = omega arith in
+    let count : 4 * (i + 1) ≡ 4 * i + 4 = omega arith in
+    rw (n, count) (gctr_blocks-group ciph (64 * i) k (4 * i) 4 icb counter next text0 text ys (omega arith) (omega arith) len rest done ec (omega arith) ey en)
 
 -- groups of four blocks, and what is left behind them
 pub gctr_blocks-whole : (ciph : List ℕ → List ℕ) (n : ℕ) (icb counter text f r out rest : List ℕ) → n ≤ length text → n % 64 ≡ 0 → f ≡ take n text → r ≡ drop n text

@@ -2,14 +2,15 @@
 // size is another schedule.
 
 ghost use Rattle.std.specs.Prelude.{◌≡◌, ◌↔◌, ◌+◌, ◌-◌, ◌*◌, ◌/◌, ◌%◌, ◌^◌, ◌<◌, ◌≤◌, ◌++◌, ◌≢◌, ◌⊎◌, IsErr, IsTrue, None, OnErr, OnOk, Some, length, replicate};
+ghost use Rattle.std.specs.Int.{div_ceil};
 ghost use Rattle.gcm_core.specs.Aes.{cipher, xor_bytes};
-ghost use Rattle.gcm_core.specs.Gcm.{gcm_ad, gcm_ae, gctr, gctr_blocks, inc32, j0, tag_of};
+ghost use Rattle.gcm_core.specs.Gcm.{gcm_ad, gcm_ae, gctr, gctr_blocks, inc32, j0, padded, tag_of};
 ghost use Rattle.gcm_core.specs.Counters.{counter_after};
-ghost use Rattle.gcm_core.specs.Ghash.{polynomial_of};
+ghost use Rattle.gcm_core.specs.Ghash.{continued, polynomial_of, polynomials};
 
 use crate::aes::{BLOCK_LEN, Block, cipher, cipher_four};
 use crate::error::{NotAuthentic, TooLong};
-use crate::ghash::{ghash, polynomial_of};
+use crate::ghash::{absorb, ghash, ghash_of_sum, polynomial_of};
 use crate::hash_key::HashKey;
 use ct_choice::Choice;
 use std::simd::prelude::*;
@@ -19,6 +20,9 @@ const NONCE_LEN: usize = 12;
 
 // The bytes of four blocks, which are ciphered together.
 const FOUR_BLOCKS: usize = 4 * BLOCK_LEN;
+
+// The bytes that are sealed and then hashed while they are in the cache: whole groups of four blocks.
+const CHUNK_LEN: usize = 4096;
 
 type Nonce = [u8; NONCE_LEN];
 
@@ -154,6 +158,76 @@ fn gctr(round_keys: &[u8], icb: Block, text: &mut [u8])
     gctr_rest(round_keys, counter, rest);
 }
 
+// GCTR over whole groups of four blocks, from the counter block `counter`, which moves on behind them,
+// and the sum of GHASH over what comes of it, after the blocks that gave the sum `earlier`.
+fn seal_chunk(
+    round_keys: &[u8],
+    key: &HashKey,
+    counter: &mut Block,
+    earlier: u128,
+    text: &mut [u8],
+) -> u128
+    requires schedule { 32 ≤ length round_keys.now }
+    requires fours { length text.old % 64 ≡ 0 }
+    ensures text { text.new ≡ gctr_blocks (cipher round_keys.now) (length text.old / 16) counter.old text.old }
+    ensures counter { counter.new ≡ counter_after (length text.old / 16) counter.old }
+    ensures sum { result ≡ continued key.now earlier (polynomials (length text.old / 16) text.new) }
+{
+    gctr_fours(round_keys, counter, text);
+    absorb(key, earlier, text)
+}
+
+// The same over whole chunks, one by one.
+fn seal_chunks(
+    round_keys: &[u8],
+    key: &HashKey,
+    counter: &mut Block,
+    earlier: u128,
+    text: &mut [u8],
+) -> u128
+    requires schedule { 32 ≤ length round_keys.now }
+    requires within { key.now < 2 ^ 128 }
+    requires chunks { length text.old % 4096 ≡ 0 }
+    ensures text { text.new ≡ gctr_blocks (cipher round_keys.now) (length text.old / 16) counter.old text.old }
+    ensures counter { counter.new ≡ counter_after (length text.old / 16) counter.old }
+    ensures sum { result ≡ continued key.now earlier (polynomials (length text.old / 16) text.new) }
+{
+    let mut sum = earlier;
+    for i in 0..text.len() / CHUNK_LEN {
+        let start = CHUNK_LEN * i;
+        let chunk = &mut text[start..start + CHUNK_LEN];
+        sum = seal_chunk(round_keys, key, counter, sum, chunk);
+    }
+    sum
+}
+
+// GCTR from the counter block `icb`, and the sum of GHASH over what comes of it, after the blocks that
+// gave the sum `earlier`.
+fn seal_text(round_keys: &[u8], key: &HashKey, icb: Block, earlier: u128, text: &mut [u8]) -> u128
+    requires schedule { 32 ≤ length round_keys.now }
+    requires within { key.now < 2 ^ 128 }
+    ensures text { text.new ≡ gctr (cipher round_keys.now) icb text.old }
+    ensures sum { result ≡ continued key.now earlier
+        (polynomials (div_ceil (length text.new) 16) (padded text.new)) }
+{
+    let whole = text.len() / CHUNK_LEN * CHUNK_LEN;
+    let (chunks, rest) = text.split_at_mut(whole);
+    let mut counter = icb;
+    let sum = seal_chunks(round_keys, key, &mut counter, earlier, chunks);
+    gctr(round_keys, counter, rest);
+    absorb(key, sum, rest)
+}
+
+// The tag that GHASH of all that it authenticates gives.
+fn tag_of_hash(round_keys: &[u8], nonce: &Nonce, hash: Block) -> Tag
+    requires { 32 ≤ length round_keys.now }
+    ensures { result ≡ gctr (cipher round_keys.now) (j0 nonce.now) hash }
+{
+    let mut tag = hash;
+    gctr(round_keys, start_block(nonce), &mut tag);
+    tag
+}
+
 fn tag_of(round_keys: &[u8], key: &HashKey, nonce: &Nonce, aad: &[u8], text: &[u8]) -> Tag
     requires schedule { 32 ≤ length round_keys.now }
     requires subkey { key.now ≡ polynomial_of (cipher round_keys.now (replicate 16 0)) }
@@ -161,9 +235,7 @@ fn tag_of(round_keys: &[u8], key: &HashKey, nonce: &Nonce, aad: &[u8], text: &[u
     requires text { length text.now < 2 ^ 61 }
     ensures { result ≡ tag_of (cipher round_keys.now) nonce.now aad.now text.now }
 {
-    let mut tag = ghash(key, aad, text);
-    gctr(round_keys, start_block(nonce), &mut tag);
-    tag
+    tag_of_hash(round_keys, nonce, ghash(key, aad, text))
 }
 
 // Whether the tags are equal, by all of their bytes.
@@ -205,8 +277,9 @@ pub(crate) fn seal(
     if !is_within_limits(aad, buf) {
         return Err(TooLong);
     }
-    gctr(round_keys, text_start(nonce), buf);
-    *tag = tag_of(round_keys, key, nonce, aad, buf);
+    let sum = seal_text(round_keys, key, text_start(nonce), absorb(key, 0, aad), buf);
+    let hash = ghash_of_sum(key, sum, aad.len(), buf.len());
+    *tag = tag_of_hash(round_keys, nonce, hash);
     Ok(())
 }
 

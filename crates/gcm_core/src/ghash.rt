@@ -1,6 +1,6 @@
 // GHASH over associated data and a ciphertext (SP 800-38D, section 6.4).
 
-ghost use Rattle.std.specs.Prelude.{◌≡◌, ◌+◌, ◌*◌, ◌/◌, ◌%◌, ◌^◌, ◌<◌, ◌++◌, bit_xor, drop, length, map, take};
+ghost use Rattle.std.specs.Prelude.{◌≡◌, ◌+◌, ◌*◌, ◌/◌, ◌%◌, ◌^◌, ◌<◌, ◌++◌, ℕ, List, bit_xor, drop, length, map, take};
 ghost use Rattle.std.specs.Int.{div_ceil, reverse_bits, to_be_bytes, w8, w64};
 ghost use Rattle.gcm_core.specs.FieldMul.{times_x};
 ghost use Rattle.gcm_core.specs.Gcm.{authenticated, padded};
@@ -109,7 +109,7 @@ fn padded_block(bytes: &[u8], start: usize) -> Block
 }
 
 // The blocks of the padded bytes, after those that gave the sum `earlier`.
-fn absorb(key: &HashKey, earlier: u128, bytes: &[u8]) -> u128
+pub(crate) fn absorb(key: &HashKey, earlier: u128, bytes: &[u8]) -> u128
     ensures { result ≡ continued key.now earlier
         (polynomials (div_ceil (length bytes.now) 16) (padded bytes.now)) }
 {
@@ -132,6 +132,19 @@ fn length_block(aad_len: usize, text_len: usize) -> Block
     block
 }
 
+// GHASH of all that a tag authenticates, from the sum over the blocks of both texts.
+pub(crate) fn ghash_of_sum(key: &HashKey, sum: u128, aad_len: usize, text_len: usize) -> Block
+    requires aad { aad_len < 2 ^ 61 }
+    requires text { text_len < 2 ^ 61 }
+    ensures { (aad text : List ℕ) → aad_len ≡ length aad → text_len ≡ length text
+        → sum ≡ continued key.now (continued key.now 0 (polynomials (div_ceil (length aad) 16) (padded aad)))
+        (polynomials (div_ceil (length text) 16) (padded text))
+        → let x = authenticated aad text
+        in result ≡ block_of (weighted_sum key.now (polynomials (length x / 16) x)) }
+{
+    block_of(absorb_block(key, sum, length_block(aad_len, text_len)))
+}
+
 // GHASH, under the polynomial of the hash subkey, of all that a tag authenticates.
 pub(crate) fn ghash(key: &HashKey, aad: &[u8], text: &[u8]) -> Block
     requires aad { length aad.now < 2 ^ 61 }
@@ -140,5 +153,5 @@ pub(crate) fn ghash(key: &HashKey, aad: &[u8], text: &[u8]) -> Block
         in result ≡ block_of (weighted_sum key.now (polynomials (length x / 16) x)) }
 {
     let sum = absorb(key, absorb(key, 0, aad), text);
-    block_of(absorb_block(key, sum, length_block(aad.len(), text.len())))
+    ghash_of_sum(key, sum, aad.len(), text.len())
 }
