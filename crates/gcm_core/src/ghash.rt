@@ -7,7 +7,7 @@ ghost use Rattle.gcm_core.specs.Gcm.{authenticated, padded};
 ghost use Rattle.gcm_core.specs.Ghash.{block_of, block_product, continued, polynomial_of, polynomials, reduction_block, weighted_sum};
 
 use crate::aes::{BLOCK_LEN, Block};
-use crate::hash_key::{HashKey, number_of};
+use crate::hash_key::{HashKey, lanes_of, number_of};
 use crate::nibbles::{HALF_BITS, LOW_HALF, look_up};
 use ct_choice::Choice;
 use std::simd::prelude::*;
@@ -81,7 +81,7 @@ pub(crate) fn polynomial_of(block: Block) -> u128
 fn block_of(polynomial: u128) -> Block
     ensures { result ≡ block_of polynomial }
 {
-    polynomial.reverse_bits().to_be_bytes()
+    reversed_bits(lanes_of(polynomial)).to_array()
 }
 
 // One block more, by Horner's rule.

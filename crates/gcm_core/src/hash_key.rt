@@ -77,7 +77,7 @@ fn write_column(rows: &mut [u8; ROWS_LEN], place: usize, product: u128)
 
 // A number as the lanes of its bytes, the lowest first.
 #[inline(always)]
-fn lanes_of(n: u128) -> u8x16
+pub(crate) fn lanes_of(n: u128) -> u8x16
     ensures number { number_l 256 result ≡ n }
     ensures bytes { Each1 (λ x. x < 256) result }
     ensures size { length result ≡ 16 }
