@@ -245,12 +245,14 @@ continued-authenticated h s t u aad c l lh es et el lt eu =
 
 -- ---- a text in parts
 
+-- whole blocks before a text take none of its zeros
 pub padded-append : (x y : List ℕ) → length x % 16 ≡ 0 → padded (x ++ y) ≡ x ++ padded y
 unfolding padded
 padded-append x y whole =
     let same : (16 - length (x ++ y) % 16) % 16 ≡ (16 - length y % 16) % 16 = omega (arith, length-append x y) in
     ap (λ (k : ℕ). (x ++ y) ++ replicate k 0) same ∙ append_assoc x y (replicate ((16 - length y % 16) % 16) 0)
 
+-- whole blocks have no zeros behind them
 pub padded-blocks : (x : List ℕ) → length x % 16 ≡ 0 → padded x ≡ x
 unfolding padded
 padded-blocks x whole =
@@ -281,5 +283,6 @@ continued-rest h y a r lh ly whole =
     continued-more h y m n a (padded r) lh ly (omega arith)
     ∙ sym (ap (λ (k : ℕ). continued h y (polynomials k (padded (a ++ r)))) count ∙ ap (λ (z : List ℕ). continued h y (polynomials (m + n) z)) (padded-append a r whole))
 
+-- the sum over no blocks
 pub continued-empty : (h y : ℕ) (x : List ℕ) → y < 2 ^ 128 → continued h y (polynomials 0 x) ≡ y
 continued-empty h y x l = ap (continued h y) (polynomials-none x) ∙ continued-none h y l

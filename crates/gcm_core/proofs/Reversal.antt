@@ -59,6 +59,7 @@ highest_first : List ℕ → ℕ
 highest_first [] = 0
 highest_first (b ∷ bs) = b * 2 ^ (8 * length bs) + highest_first bs
 
+-- it has 8 bits for each byte
 highest_first-lt : (bs : List ℕ) → AreBytes bs → highest_first bs < 2 ^ (8 * length bs)
 unfolding highest_first
 highest_first-lt [] h = omega arith
@@ -85,6 +86,7 @@ highest_first-reversed (b ∷ bs) h =
     ∙ ap (reverse_bits_onto 8 b) (reverse_bits_onto-low j r b 0 ∙ highest_first-reversed bs h.1)
     ∙ reverse_bits_onto-byte b (number_l 256 (map (reverse_bits w8) bs))
 
+-- a block as a number
 highest_first-block : (bs : List ℕ) → length bs ≡ 16 → from_be_bytes w128 bs ≡ highest_first bs
 unfolding highest_first
 highest_first-block bs len =
