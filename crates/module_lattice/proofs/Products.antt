@@ -2,7 +2,7 @@
 use Rattle.std.proofs.Common.{◌≡◌, ℕ, zero, suc, ◌+◌, ◌*◌, ◌%◌, ◌^◌, ◌<◌, ◌≤◌, All, replicate, List, [], ◌∷◌, ◌++◌, length, take, get_or, slice_index, map, refl, sym, ap, ◌∙◌, append_assoc, add-one, arith}
 use Rattle.std.specs.List.{flat_map, range_with_len}
 use Rattle.std.proofs.Math.ListN.{set}
-use Rattle.std.proofs.Math.Nat.{add-mod-mod, mod-add-mod, mod-lt}
+use Rattle.std.proofs.Math.Nat.{add-mod-mod, mod-lt}
 use Rattle.std.proofs.lemmas.Nat.{mul-mod_first}
 use Rattle.std.proofs.lemmas.List.Concat.{flat_map-cons}
 use Rattle.std.proofs.lemmas.Grind.{flat_map-append, take-set_at}
@@ -10,7 +10,7 @@ use Rattle.std.proofs.Math.Seq.{take-length}
 use Rattle.std.proofs.lemmas.List.{append-nil, length-replicate, length-set}
 use Rattle.std.proofs.lemmas.List.FromFn.{get_or-map-range_with_len}
 use Rattle.module_lattice.specs.declared.multiply_ntt.TheConstants.{GAMMAS}
-use Rattle.module_lattice.specs.Ring.{plus, times}
+use Rattle.module_lattice.specs.Ring.{times}
 use Rattle.module_lattice.specs.Pairs.{bit_rev7, gamma, pair_product, pair_products}
 use Rattle.module_lattice.specs.PairLaws.{All-pairs}
 
@@ -28,19 +28,13 @@ pub slice_index-GAMMAS-below : (i : ℕ) → i < 128 → slice_index GAMMAS i < 
 unfolding gamma
 slice_index-GAMMAS-below i h = rw (slice_index-GAMMAS i h) (mod-lt (17 ^ (2 * bit_rev7 i + 1)) (omega arith))
 
--- sums and products are reduced at each step, or once
+-- a product of three numbers is reduced behind two of them, or once
 pub constant_of : (a0 a1 b0 b1 g : ℕ)
-    → plus 3329 (times 3329 a0 b0) (times 3329 (times 3329 a1 b1) g) ≡ (a0 * b0 + a1 * b1 * g) % 3329
+    → (a0 * b0 + times 3329 a1 b1 * g) % 3329 ≡ (a0 * b0 + a1 * b1 * g) % 3329
 constant_of a0 a1 b0 b1 g =
-    mod-add-mod (a0 * b0) 3329 (times 3329 (times 3329 a1 b1) g)
-    ∙ add-mod-mod (a0 * b0) (times 3329 a1 b1 * g) 3329
-    ∙ sym (add-mod-mod (a0 * b0) (times 3329 a1 b1 * g) 3329)
+    sym (add-mod-mod (a0 * b0) (times 3329 a1 b1 * g) 3329)
     ∙ ap (λ n. (a0 * b0 + n) % 3329) (mul-mod_first (a1 * b1) g 3329)
     ∙ add-mod-mod (a0 * b0) (a1 * b1 * g) 3329
-
-pub linear_of : (a0 a1 b0 b1 : ℕ)
-    → plus 3329 (times 3329 a0 b1) (times 3329 a1 b0) ≡ (a0 * b1 + a1 * b0) % 3329
-linear_of a0 a1 b0 b1 = mod-add-mod (a0 * b1) 3329 (times 3329 a1 b0) ∙ add-mod-mod (a0 * b1) (a1 * b0) 3329
 
 -- one number more at the end of a range
 range_with_len-suc : (a n k : ℕ) → k ≡ a + n → range_with_len a (suc n) ≡ range_with_len a n ++ k ∷ []

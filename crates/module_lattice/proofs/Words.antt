@@ -1,10 +1,10 @@
 -- The word that holds a unit: its bytes, and the numbers that are its digits.
-use Rattle.std.proofs.Common.{◌≡◌, ℕ, zero, suc, ◌+◌, ◌-◌, ◌*◌, ◌/◌, ◌%◌, ◌^◌, ◌<◌, ◌≤◌, List, [], ◌∷◌, ◌++◌, length, take, drop, get_or, slice_index, replicate, map, All, refl, sym, ap, ◌∙◌, arith, length-append, length-take-le, get_or-take, pow-suc, pow-add, add-zero, add-one, append-nil, bit_or, mod-eq_of_lt, mul-le-mul_left, take_all}
-use Rattle.std.specs.Int.{byte_at, byte_worth, bytes_low_first, from_le_bytes, sum_through, to_le_bytes, w128}
+use Rattle.std.proofs.Common.{◌≡◌, ℕ, zero, suc, ◌+◌, ◌*◌, ◌/◌, ◌%◌, ◌^◌, ◌<◌, ◌≤◌, List, [], ◌∷◌, length, take, get_or, map, All, refl, sym, ap, ◌∙◌, arith, length-take-le, get_or-take, pow-suc, pow-add, add-zero, append-nil, bit_or, mod-eq_of_lt, mul-le-mul_left}
+use Rattle.std.specs.Int.{byte_at, bytes_low_first, to_le_bytes, w128}
 use Rattle.std.specs.List.{range_with_len}
 use Rattle.std.proofs.lemmas.Grind.{same_number_lists}
-use Rattle.std.proofs.lemmas.List.{drop-replicate, length-replicate, take_more}
-use Rattle.std.proofs.lemmas.List.Elements.{All-append, All-get_or, All-replicate}
+use Rattle.std.proofs.lemmas.List.{take_more}
+use Rattle.std.proofs.lemmas.List.Elements.{All-get_or}
 use Rattle.std.proofs.lemmas.List.FromFn.{fill_by_all}
 use Rattle.std.proofs.lemmas.Nat.{shl_whole}
 use lib.Bits.{or_shifted_r}
@@ -80,54 +80,6 @@ groups-word d n values whole fits =
     ∙ ap (λ (i : ℕ). byte_at i all) place
     ∙ byte_at-is k all
     ∙ sym (get_or-regroup d 8 n values k (omega arith) whole within))
-
--- ---- bytes into a word
-
-byte_worth-is : (i b : ℕ) → byte_worth i b ≡ 2 ^ (8 * i) * b
-byte_worth-is zero b = omega arith
-byte_worth-is (suc i) b = ap (λ (p : ℕ). b * p) (pow-256 (suc i)) ∙ omega arith
-
--- the bytes of a word as its digits
-sum_through-bytes : (k : ℕ) (bytes : List ℕ) → All (λ x. x < 2 ^ 8) bytes → k < length bytes
-    → sum_through (λ i. byte_worth i (slice_index bytes i)) k ≡ number_of (bits_of_each 8 (take (k + 1) bytes))
-unfolding bits_of_each number_of
-sum_through-bytes zero bytes each lt = omega (arith, number_of-more 8 0 bytes lt each)
-sum_through-bytes (suc k) bytes each lt =
-    let before : sum_through (λ i. byte_worth i (slice_index bytes i)) k ≡ number_of (bits_of_each 8 (take (suc k) bytes)) =
-    rw add-one at (sum_through-bytes k bytes each (omega arith)) in
-    omega (arith, before, byte_worth-is (suc k) (slice_index bytes (suc k)), number_of-more 8 (suc k) bytes lt each)
-
-from_le_bytes-is : (bytes : List ℕ) → All (λ x. x < 2 ^ 8) bytes → length bytes ≡ 16 → from_le_bytes w128 bytes ≡ number_of (bits_of_each 8 bytes)
-from_le_bytes-is bytes each len =
-    sum_through-bytes 15 bytes each (omega arith) ∙ ap (λ (x : List ℕ). number_of (bits_of_each 8 x)) (take_all 16 bytes (omega arith))
-
-number_of-zeros : (n : ℕ) → number_of (bits_of_each 8 (replicate n 0)) ≡ 0
-unfolding bits_of_each number_of bits_of
-number_of-zeros zero = refl
-number_of-zeros (suc n) = omega (arith, number_of-zeros n)
-
--- bytes with zeros behind them
-from_le_bytes-padded : (n : ℕ) (bytes : List ℕ) → All (λ x. x < 2 ^ 8) bytes → length bytes + n ≡ 16
-    → from_le_bytes w128 (bytes ++ replicate n 0) ≡ number_of (bits_of_each 8 bytes)
-from_le_bytes-padded n bytes each len =
-    let zeros : List ℕ = replicate n 0 in
-    let low : List ℕ = bits_of_each 8 bytes in
-    let high : List ℕ = bits_of_each 8 zeros in
-    let none : 2 ^ length low * number_of high ≡ 0 = ap (λ (k : ℕ). 2 ^ length low * k) (number_of-zeros n) ∙ omega arith in
-    from_le_bytes-is (bytes ++ zeros) (All-append (λ x. x < 2 ^ 8) bytes zeros each (All-replicate (λ x. x < 2 ^ 8) n 0 (omega arith)))
-    (length-append bytes zeros ∙ omega (arith, length-replicate {A = ℕ} n 0))
-    ∙ ap number_of (bits_of_each-append 8 bytes zeros)
-    ∙ number_of-append low high
-    ∙ omega arith
-
--- a word of the bytes that were copied to its front
-pub from_le_bytes-filled : (n word : ℕ) (bytes copied : List ℕ) → word ≡ from_le_bytes w128 (copied ++ drop n (replicate 16 0)) → copied ≡ bytes
-    → length bytes ≡ n → n ≤ 16 → All (λ x. x < 2 ^ 8) bytes → word ≡ number_of (bits_of_each 8 bytes)
-from_le_bytes-filled n word bytes copied is same len fits each =
-    is
-    ∙ ap (λ (x : List ℕ). from_le_bytes w128 (x ++ drop n (replicate 16 0))) same
-    ∙ ap (λ (x : List ℕ). from_le_bytes w128 (bytes ++ x)) (drop-replicate n 16 0)
-    ∙ from_le_bytes-padded (16 - n) bytes each (omega arith)
 
 -- ---- a word into numbers
 

@@ -69,10 +69,12 @@ impl<F: Field> Encode for Polynomial<F> {
 
     ghost takes_memory = { ⊥ };
 
+    #[inline(always)]
     fn encode(&self, d: usize, out: &mut [u8]) {
         byte_encode::<F>(d, self.as_array(), out);
     }
 
+    #[inline(always)]
     fn decode(
         _alloc: Global,
         d: usize,
@@ -94,10 +96,12 @@ impl<F: Field> Encode for NttPolynomial<F> {
 
     ghost takes_memory = { ⊥ };
 
+    #[inline(always)]
     fn encode(&self, d: usize, out: &mut [u8]) {
         byte_encode::<F>(d, self.as_array(), out);
     }
 
+    #[inline(always)]
     fn decode(
         _alloc: Global,
         d: usize,
@@ -119,6 +123,7 @@ impl<F: Field> Encode for Vector<F> {
 
     ghost takes_memory = { ⊤ };
 
+    #[inline(always)]
     fn encode(&self, d: usize, out: &mut [u8]) {
         let size = BYTES_PER_BIT * d;
         for i in 0..self.len() {
@@ -127,6 +132,7 @@ impl<F: Field> Encode for Vector<F> {
         }
     }
 
+    #[inline(always)]
     fn decode(
         alloc: Global,
         d: usize,
@@ -154,6 +160,7 @@ impl<F: Field> Encode for NttVector<F> {
 
     ghost takes_memory = { ⊤ };
 
+    #[inline(always)]
     fn encode(&self, d: usize, out: &mut [u8]) {
         let size = BYTES_PER_BIT * d;
         for i in 0..self.len() {
@@ -162,6 +169,7 @@ impl<F: Field> Encode for NttVector<F> {
         }
     }
 
+    #[inline(always)]
     fn decode(
         alloc: Global,
         d: usize,
@@ -179,6 +187,7 @@ impl<F: Field> Encode for NttVector<F> {
 }
 
 // The numbers of one polynomial.
+#[inline(always)]
 fn decode_one<F: Field>(d: usize, bytes: &[u8]) -> [u32; DEGREE]
     requires positive { 1 ≤ d }
     requires unit { lcm d 8 ≤ 128 }

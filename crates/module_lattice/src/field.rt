@@ -2,7 +2,8 @@
 
 ghost use Rattle.std.specs.Prelude.{◌≡◌, ◌*◌, ◌+◌, ◌-◌, ◌%◌, ◌^◌, ◌<◌, ◌≤◌, ℕ, nat_lt, if◌then◌else◌};
 
-use ctutils::{CtLt, CtSelect};
+use ctutils::primitives::borrowing_sub_u32;
+use ctutils::{Choice, CtSelect};
 use std::fmt::Debug;
 
 /// The integers modulo Q, for a Q that is at least 2 and below 2^31.
@@ -99,10 +100,8 @@ impl Field for BaseField {
     }
 
     fn barrett_reduce(x: u64) -> u32 {
-        let product = u128::from(x) * Self::BARRETT_MULTIPLIER;
-        let quotient = product >> Self::BARRETT_SHIFT;
-        let remainder = u128::from(x) - quotient * Self::QLL;
-        Self::small_reduce(remainder as u32)
+        let quotient = (x * Self::BARRETT_MULTIPLIER as u64) >> Self::BARRETT_SHIFT;
+        Self::small_reduce((x - quotient * Self::QL) as u32)
     }
 }
 
@@ -161,5 +160,6 @@ impl Field for Field8380417 {
 fn small_reduce(x: u32, q: u32) -> u32
     ensures { result ≡ (if nat_lt x q then x else x - q) }
 {
-    x - q.ct_select(&0, x.ct_lt(&q))
+    let (difference, is_below) = borrowing_sub_u32(x, q, Choice::FALSE);
+    difference.ct_select(&x, is_below)
 }

@@ -1,6 +1,6 @@
 //! Products in the transform domain.
 
-ghost use Rattle.std.specs.Prelude.{◌≡◌, ◌<◌, ℕ, List, All};
+ghost use Rattle.std.specs.Prelude.{◌≡◌, ◌+◌, ◌*◌, ◌%◌, ◌<◌, ℕ, List, All};
 ghost use Rattle.module_lattice.specs.Ring.{IsPolynomial};
 ghost use Rattle.module_lattice.specs.Pairs.{gamma, pair_product};
 
@@ -82,9 +82,23 @@ fn pair_product(
 {
     let (a0, a1) = (lhs.coefficient(2 * i), lhs.coefficient(2 * i + 1));
     let (b0, b1) = (rhs.coefficient(2 * i), rhs.coefficient(2 * i + 1));
-    let constant = a0 * b0 + a1 * b1 * gamma(i);
-    let linear = a0 * b1 + a1 * b0;
+    let constant = sum_of_products(a0, b0, a1 * b1, gamma(i));
+    let linear = sum_of_products(a0, b1, a1, b0);
     [constant.get(), linear.get()]
+}
+
+// a·b + c·d, which is reduced once.
+fn sum_of_products(
+    a: Elem<BaseField>,
+    b: Elem<BaseField>,
+    c: Elem<BaseField>,
+    d: Elem<BaseField>,
+) -> Elem<BaseField>
+    ensures { result ≡ (a * b + c * d) % 3329 }
+{
+    let first = a.get() * b.get();
+    let second = c.get() * d.get();
+    Elem::new(BaseField::barrett_reduce(u64::from(first + second)))
 }
 
 // g(i): the product of pair `i` is modulo X^2 - g(i).

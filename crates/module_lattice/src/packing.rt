@@ -1,4 +1,6 @@
 //! Numbers packed into bytes, and taken out of them (FIPS 203, section 4.2.1).
+//!
+//! Callers give widths as literals, so the functions are inlined: then shifts and lengths are literals too.
 
 ghost use Rattle.std.specs.Prelude.{◌≡◌, ◌⊎◌, ◌*◌, ◌/◌, ◌%◌, ◌^◌, ◌<◌, ◌≤◌, All, length, map};
 ghost use Rattle.std.specs.List.{range_with_len};
@@ -13,10 +15,6 @@ const VALUE_COUNT: usize = 256;
 // The bits of a byte.
 const BYTE_BITS: usize = 8;
 
-// The bytes of a word, which holds the bits of a unit: the least number of values that fill whole
-// bytes.
-const WORD_LEN: usize = 16;
-
 // The width at which bytes may hold numbers of Q or more.
 const REDUCED_WIDTH: usize = 12;
 
@@ -24,6 +22,7 @@ const REDUCED_WIDTH: usize = 12;
 ///
 /// The width `d` is at least 1, with lcm(d, 8) at most 128 and 2^d at most Q; a `d` of 12 needs 2^12
 /// at most 2·Q alone.
+#[inline(always)]
 pub fn byte_encode<F: Field>(d: usize, values: &[u32], out: &mut [u8])
     requires positive { 1 ≤ d }
     requires unit { lcm d 8 ≤ 128 }
@@ -52,6 +51,7 @@ pub fn byte_encode<F: Field>(d: usize, values: &[u32], out: &mut [u8])
 ///
 /// The width `d` is at least 1, with lcm(d, 8) at most 128 and 2^d at most Q; a `d` of 12 needs 2^12
 /// at most 2·Q alone.
+#[inline(always)]
 pub fn byte_decode<F: Field>(d: usize, bytes: &[u8], out: &mut [u32])
     requires positive { 1 ≤ d }
     requires unit { lcm d 8 ≤ 128 }
@@ -68,6 +68,7 @@ pub fn byte_decode<F: Field>(d: usize, bytes: &[u8], out: &mut [u32])
     }
 }
 
+#[inline(always)]
 fn unpack(d: usize, bytes: &[u8], out: &mut [u32])
     requires positive { 1 ≤ d }
     requires narrow { d ≤ 32 }
@@ -98,6 +99,7 @@ fn reduce_once<F: Field>(values: &mut [u32])
 }
 
 // lcm(d, 8) / d.
+#[inline(always)]
 fn values_in_unit(d: usize) -> usize
     ensures bits { d * result ≡ lcm d 8 }
     ensures whole_bytes { d * result % 8 ≡ 0 }
@@ -114,6 +116,7 @@ fn values_in_unit(d: usize) -> usize
     }
 }
 
+#[inline(always)]
 fn pack_unit(d: usize, values: &[u32], out: &mut [u8])
     requires whole { d * length values.now ≡ 8 * length out.old }
     requires unit { length out.old ≤ 16 }
@@ -125,6 +128,7 @@ fn pack_unit(d: usize, values: &[u32], out: &mut [u8])
     out.copy_from_slice(&word[..len]);
 }
 
+#[inline(always)]
 fn unpack_unit(d: usize, bytes: &[u8], out: &mut [u32])
     requires positive { 1 ≤ d }
     requires narrow { d ≤ 32 }
@@ -132,12 +136,25 @@ fn unpack_unit(d: usize, bytes: &[u8], out: &mut [u32])
     requires unit { length bytes.now ≤ 16 }
     ensures { out.new ≡ ungroup d bytes.now }
 {
-    let mut word = [0; WORD_LEN];
-    word[..bytes.len()].copy_from_slice(bytes);
-    split_word(d, u128::from_le_bytes(word), out);
+    split_word(d, join_bytes(bytes), out);
+}
+
+// The bytes as the digits of one number, the lowest first. They are joined and not copied into an
+// array, since reading a word waits for stores of its bytes right before.
+#[inline(always)]
+fn join_bytes(bytes: &[u8]) -> u128
+    requires { length bytes.now ≤ 16 }
+    ensures { result ≡ number_of (bits_of_each 8 bytes.now) }
+{
+    let mut word = 0;
+    for (j, byte) in bytes.iter().enumerate() {
+        word |= u128::from(*byte) << (BYTE_BITS * j);
+    }
+    word
 }
 
 // The values as the digits of one number, the lowest first.
+#[inline(always)]
 fn join_values(d: usize, values: &[u32]) -> u128
     requires unit { d * length values.now ≤ 128 }
     requires in_width { All (λ x. x < 2 ^ d) values.now }
@@ -151,6 +168,7 @@ fn join_values(d: usize, values: &[u32]) -> u128
 }
 
 // The digits of the word of `d` bits each, the lowest first.
+#[inline(always)]
 fn split_word(d: usize, word: u128, out: &mut [u32])
     requires positive { 1 ≤ d }
     requires narrow { d ≤ 32 }
