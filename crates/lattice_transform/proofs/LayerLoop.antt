@@ -3,7 +3,7 @@ use Rattle.std.proofs.Common.{◌≡◌, ℕ, ◌+◌, ◌-◌, ◌*◌, ◌/◌
 use Rattle.std.proofs.Math.Nat.{mul-le-mul_right}
 use Rattle.std.proofs.lemmas.Bool.{cases_eq}
 use Rattle.module_lattice.specs.Ring.{IsPolynomial, butterfly}
-use Rattle.lattice_transform.specs.Layers.{butterflies, first_place, inverse_butterflies, inverse_butterfly, inverse_layer, layer, zeta}
+use Rattle.lattice_transform.specs.Layers.{butterflies, first_place, inverse_butterflies, inverse_butterfly, layer, zeta}
 use Rattle.lattice_transform.proofs.Groups.{are-apart, group-below}
 
 pub first-inside : (half k : ℕ) → 2 ≤ half → half * (128 / half) ≡ 128 → k < 128 → first_place half k < 256
@@ -13,7 +13,7 @@ pub second-inside : (half k : ℕ) → 2 ≤ half → half * (128 / half) ≡ 12
 second-inside half k low whole inside = (are-apart half (128 / half) (omega arith) whole).second_inside k inside
 
 -- at most 64 groups have 2 butterflies each
-groups-few : (half t : ℕ) → 2 ≤ half → half * t ≡ 128 → t ≤ 64
+pub groups-few : (half t : ℕ) → 2 ≤ half → half * t ≡ 128 → t ≤ 64
 groups-few half t low whole = let few : 2 * t ≤ half * t = mul-le-mul_right t low in omega arith
 
 pub group-inside : (half k : ℕ) → 2 ≤ half → half * (128 / half) ≡ 128 → k < 128 → 128 / half + k / half < 128
@@ -45,12 +45,6 @@ after-all half k f v low high made = let all : k ≡ 128 = omega arith in made �
 
 -- ---- the way back
 
-pub downward-inside : (half k : ℕ) → 2 ≤ half → half * (128 / half) ≡ 128 → k < 128 → 2 * (128 / half) - 1 - k / half < 128
-downward-inside half k low whole inside =
-    let few : 128 / half ≤ 64 = groups-few half (128 / half) low whole in
-    let some : k / half < 128 / half = group-below half (128 / half) k (omega arith) whole inside in
-    omega arith
-
 pub next-inverse : (half k z : ℕ) (f v w : List ℕ) → w ≡ inverse_butterfly (k + half * (k / half)) (k + half * (k / half) + half) z v
     → z ≡ zeta (2 * (128 / half) - 1 - k / half) → v ≡ inverse_butterflies half k f → w ≡ inverse_butterflies half (k + 1) f
 unfolding inverse_butterflies
@@ -58,6 +52,3 @@ next-inverse half k z f v w made is before =
     made ∙ ap (λ z. inverse_butterfly (first_place half k) (first_place half k + half) z v) is
     ∙ ap (inverse_butterfly (first_place half k) (first_place half k + half) (zeta (2 * (128 / half) - 1 - k / half))) before
     ∙ ap (λ (n : ℕ). inverse_butterflies half n f) (sym (add-one k))
-
-pub inverse-after-all : (half k : ℕ) (f v : List ℕ) → 128 ≤ k → k ≤ 128 → v ≡ inverse_butterflies half k f → v ≡ inverse_layer half f
-inverse-after-all half k f v low high made = let all : k ≡ 128 = omega arith in made ∙ ap (λ (n : ℕ). inverse_butterflies half n f) all

@@ -32,6 +32,8 @@ pub mod Seven
 pub mod ZetaTable
 -- the loop over the butterflies of a layer
 pub mod LayerLoop
+-- the loops over the groups of a layer and over the butterflies of a group
+pub mod GroupLoop
 -- a layer, undone up to a factor
 pub mod Back
 -- seven layers back

@@ -1,8 +1,8 @@
 //! The transform and its inverse, over arrays (FIPS 203, section 4.3, algorithms 9 and 10).
 
-ghost use Rattle.std.specs.Prelude.{◌≡◌, ◌*◌, ◌/◌, ◌<◌, ◌≤◌};
+ghost use Rattle.std.specs.Prelude.{◌≡◌, ◌+◌, ◌*◌, ◌/◌, ◌<◌, ◌≤◌, List, ℕ};
 ghost use Rattle.module_lattice.specs.Ring.{IsPolynomial, butterfly, multiple};
-ghost use Rattle.lattice_transform.specs.Layers.{inverse_butterfly, inverse_layer, layer};
+ghost use Rattle.lattice_transform.specs.Layers.{butterflies, inverse_butterflies, inverse_butterfly, inverse_layer, layer};
 ghost use Rattle.lattice_transform.specs.Transform.{inverse_transform, transform};
 
 use crate::layers::BUTTERFLIES;
@@ -66,15 +66,27 @@ fn make_layer(values: &mut [u32; DEGREE], half: usize)
     ensures value { values.new ≡ layer half values.old }
     ensures polynomial { IsPolynomial 3329 values.new }
 {
-    for k in 0..BUTTERFLIES {
-        let group = k / half;
-        let place = k + half * group;
-        butterfly(
-            values,
-            place,
-            place + half,
-            zeta(BUTTERFLIES / half + group),
-        );
+    for group in 0..BUTTERFLIES / half {
+        make_group(values, half, group);
+    }
+}
+
+// The butterflies of one group of a layer, which turn by one zeta: places that lie side by side join
+// places that do, so that several butterflies can be made at once.
+#[inline(always)]
+fn make_group(values: &mut [u32; DEGREE], half: usize, group: usize)
+    requires low { 2 ≤ half }
+    requires whole { half * (128 / half) ≡ 128 }
+    requires place { group < 128 / half }
+    requires polynomial { IsPolynomial 3329 values.old }
+    ensures value { (f : List ℕ) → values.old ≡ butterflies half (half * group) f
+        → values.new ≡ butterflies half (half * group + half) f }
+    ensures polynomial { IsPolynomial 3329 values.new }
+{
+    let first = 2 * (half * group);
+    let turn = zeta(BUTTERFLIES / half + group);
+    for j in 0..half {
+        butterfly(values, first + j, first + j + half, turn);
     }
 }
 
@@ -86,15 +98,26 @@ fn undo_layer(values: &mut [u32; DEGREE], half: usize)
     ensures value { values.new ≡ inverse_layer half values.old }
     ensures polynomial { IsPolynomial 3329 values.new }
 {
-    for k in 0..BUTTERFLIES {
-        let group = k / half;
-        let place = k + half * group;
-        inverse_butterfly(
-            values,
-            place,
-            place + half,
-            zeta(2 * (BUTTERFLIES / half) - 1 - group),
-        );
+    for group in 0..BUTTERFLIES / half {
+        undo_group(values, half, group);
+    }
+}
+
+// The butterflies of one of its groups.
+#[inline(always)]
+fn undo_group(values: &mut [u32; DEGREE], half: usize, group: usize)
+    requires low { 2 ≤ half }
+    requires whole { half * (128 / half) ≡ 128 }
+    requires place { group < 128 / half }
+    requires polynomial { IsPolynomial 3329 values.old }
+    ensures value { (f : List ℕ) → values.old ≡ inverse_butterflies half (half * group) f
+        → values.new ≡ inverse_butterflies half (half * group + half) f }
+    ensures polynomial { IsPolynomial 3329 values.new }
+{
+    let first = 2 * (half * group);
+    let turn = zeta(2 * (BUTTERFLIES / half) - 1 - group);
+    for j in 0..half {
+        inverse_butterfly(values, first + j, first + j + half, turn);
     }
 }
 

@@ -1,11 +1,11 @@
-use Rattle.std.proofs.Common.{◌≡◌}
+use Rattle.std.proofs.Common.{◌≡◌, ◌*◌}
 use Rattle.module_lattice.specs.Ring.{IsPolynomial}
 use Rattle.lattice_transform.specs.Layers.{butterflies}
 use Rattle.lattice_transform.proofs.arrays.make_layer.Given as goal
 
--- the first k butterflies were made
-abbrev pub invariant-loop-k : goal.invariant-loop-k
-invariant-loop-k l = record {
-  made : l.values ≡ butterflies l.half l.k l.fn.values;
+-- the butterflies of the groups before this one were made
+abbrev pub invariant-loop-group : goal.invariant-loop-group
+invariant-loop-group l = record {
+  made : l.values ≡ butterflies l.half (l.half * l.group) l.fn.values;
   polynomial : IsPolynomial 3329 l.values;
 }
