@@ -3,6 +3,7 @@ mod Domain
 mod Encoded
 mod Generated
 mod Meanings
+mod Narrow
 mod OwnForm
 mod Ranges
 mod Reduced

@@ -4,7 +4,7 @@ use Rattle.std.specs.Prelude.{◌==◌, ◌≢◌, false, nat_lt, if◌then◌el
 use Rattle.std.proofs.Math.ListN.{set}
 use Rattle.std.proofs.Math.Nat.{mod-lt}
 use Rattle.std.proofs.lemmas.Bool.{cases_lt, eq-eqb, le-ltb, lt-ltb, ltb-true}
-use Rattle.std.proofs.lemmas.List.{length-take, length-take-le, take-append-drop, take-append-le, take_more, take_more_set}
+use Rattle.std.proofs.lemmas.List.{length-take, length-take-le, take-append-drop, take-append-le, take_more, take-set, take_more_set}
 use Rattle.std.proofs.lemmas.List.FromFn.{fill_by_all, length-map-range_with_len}
 use Rattle.ml_kem.proofs.Ranges.{All-values}
 use Rattle.std.proofs.lemmas.List.Elements.{All-map, All-same, All-take, All-weaker, filter-append, filter_passes}
@@ -52,6 +52,14 @@ number-taken values count d inside room small =
 pub number-left : (xs : List ℕ) (d : ℕ) → length xs ≤ 256 → 3329 ≤ d → xs ≡ take 256 (xs ++ filter (λ x. nat_lt x 3329) (d ∷ []))
 number-left xs d within large =
     sym (ap (take 256) (ap (λ (t : List ℕ). xs ++ t) (below-no d large) ∙ append-nil xs) ∙ take_all 256 xs within)
+
+-- a 0 behind those that were taken
+pub number-passed : (values : List ℕ) (count d : ℕ) → count ≤ 256 → 3329 ≤ d
+    → take (count + 0) (set values count 0) ≡ take 256 (take count values ++ filter (λ x. nat_lt x 3329) (d ∷ []))
+number-passed values count d within large =
+    let same : count + 0 ≡ count = omega arith in
+    ap (λ (n : ℕ). take n (set values count 0)) same ∙ take-set values count 0
+    ∙ number-left (take count values) d (omega (arith, within, length-take count values)) large
 
 pub full-left : (xs ys : List ℕ) → length xs ≡ 256 → xs ≡ take 256 (xs ++ ys)
 full-left xs ys full = sym (take-append-le 256 xs ys (omega arith) ∙ take_all 256 xs (omega arith))

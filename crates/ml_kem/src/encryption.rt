@@ -168,6 +168,7 @@ fn write_ciphertext<P: ParameterSet>(
 }
 
 // Writes each polynomial, `d` bits for each coefficient, one behind another.
+#[inline(always)]
 fn write_compressed_vector(d: usize, v: &Vector<BaseField>, out: &mut [u8])
     requires positive { 1 ≤ d }
     requires narrow { d ≤ 11 }
@@ -202,6 +203,7 @@ pub(crate) fn decrypt<P: ParameterSet>(
 }
 
 // The transforms of the first `count` polynomials of `d` bits for each coefficient.
+#[inline(always)]
 fn read_u(
     alloc: Global,
     d: usize,

@@ -18,6 +18,7 @@ const MULTIPLIER: u64 = 5160669;
 const SHIFT: u32 = 34;
 
 /// Compress: the `d` bits of a number below 3329, rounded to the nearest. The width `d` is 1 to 11.
+#[inline(always)]
 pub fn compress(d: usize, x: u32) -> u32
     requires positive { 1 ≤ d }
     requires narrow { d ≤ 11 }
@@ -32,6 +33,7 @@ pub fn compress(d: usize, x: u32) -> u32
 
 /// Decompress: the number below 3329 that `d` bits stand for, rounded to the nearest. The width `d`
 /// is 1 to 11, and `y` is below 2^d.
+#[inline(always)]
 pub fn decompress(d: usize, y: u32) -> u32
     requires positive { 1 ≤ d }
     requires narrow { d ≤ 11 }
@@ -43,6 +45,7 @@ pub fn decompress(d: usize, y: u32) -> u32
 }
 
 /// Writes a polynomial, `d` bits for each coefficient, into 32·d bytes: ByteEncode of Compress.
+#[inline(always)]
 pub(crate) fn write_compressed(d: usize, f: &Polynomial<BaseField>, out: &mut [u8])
     requires positive { 1 ≤ d }
     requires narrow { d ≤ 11 }
@@ -55,6 +58,7 @@ pub(crate) fn write_compressed(d: usize, f: &Polynomial<BaseField>, out: &mut [u
 }
 
 /// The polynomial of 32·d bytes: Decompress of ByteDecode.
+#[inline(always)]
 pub(crate) fn read_decompressed(d: usize, bytes: &[u8]) -> Polynomial<BaseField>
     requires positive { 1 ≤ d }
     requires narrow { d ≤ 11 }
@@ -67,6 +71,7 @@ pub(crate) fn read_decompressed(d: usize, bytes: &[u8]) -> Polynomial<BaseField>
     Polynomial::new(values)
 }
 
+#[inline(always)]
 fn compress_each(d: usize, values: &mut [u32])
     requires positive { 1 ≤ d }
     requires narrow { d ≤ 11 }
@@ -78,6 +83,7 @@ fn compress_each(d: usize, values: &mut [u32])
     }
 }
 
+#[inline(always)]
 fn decompress_each(d: usize, values: &mut [u32])
     requires positive { 1 ≤ d }
     requires narrow { d ≤ 11 }

@@ -1,8 +1,10 @@
 //! Sampling of polynomials from bytes (FIPS 203, section 4.2.2).
 
 ghost use Rattle.std.specs.Prelude.{◌≡◌, ◌⊎◌, ◌+◌, ◌*◌, ◌/◌, ◌%◌, ◌<◌, ◌≤◌, ◌++◌, [], ◌∷◌, All, Option, Some, None, ◌==◌, length, map, take, filter, nat_lt};
+ghost use Rattle.std.specs.Int.{bit_at};
 ghost use Rattle.std.specs.List.{range_with_len};
 ghost use Rattle.std.specs.Option.{option_map};
+ghost use Rattle.module_lattice.specs.Ring.{minus};
 ghost use Rattle.ml_kem.specs.Matrix.{noise_polynomial};
 ghost use Rattle.ml_kem.specs.Samples.{accepted, bit_sum, cbd, cbd_coefficient, sample};
 
@@ -41,7 +43,11 @@ pub fn sample_poly_cbd(eta: usize, bytes: &[u8]) -> Polynomial<BaseField>
     ensures { result ≡ cbd eta bytes.now }
 {
     let mut out = [0; DEGREE];
-    fill_cbd(eta, bytes, &mut out);
+    if eta == NARROW {
+        fill_narrow_cbd(bytes, &mut out);
+    } else {
+        fill_cbd(eta, bytes, &mut out);
+    }
     Polynomial::new(out)
 }
 
@@ -90,13 +96,15 @@ impl Sampler {
         self.count == DEGREE
     }
 
-    // Takes a number below q where there is room.
+    // Takes a number below q where there is room. In place of another number a 0 is written behind those
+    // that were taken, and not counted: one number in five is such, and no branch foretells which.
     fn take_number(&mut self, d: u32)
         ensures { self.new ≡ take 256 (self.old ++ filter (λ x. nat_lt x 3329) (d ∷ [])) }
     {
-        if d < Q && self.count < DEGREE {
-            self.values[self.count] = d;
-            self.count += 1;
+        if self.count < DEGREE {
+            let (value, taken) = if d < Q { (d, 1) } else { (0, 0) };
+            self.values[self.count] = value;
+            self.count += taken;
         }
     }
 
@@ -126,6 +134,41 @@ impl Sampler {
     {
         NttPolynomial::new(self.values)
     }
+}
+
+// For an eta of 2, where each byte makes two coefficients.
+fn fill_narrow_cbd(bytes: &[u8], out: &mut [u32])
+    requires bytes { length bytes.now ≡ 128 }
+    requires room { length out.old ≡ 256 }
+    ensures { out.new ≡ cbd 2 bytes.now }
+{
+    for t in 0..bytes.len() {
+        let byte = bytes[t];
+        out[2 * t] = narrow_coefficient(byte, 0);
+        out[2 * t + 1] = narrow_coefficient(byte, 4);
+    }
+}
+
+// The coefficient that four bits of a byte make, from bit `first` on.
+#[inline(always)]
+fn narrow_coefficient(byte: u8, first: u32) -> u32
+    requires { first ≤ 4 }
+    ensures value { result ≡ minus 3329 (bit_at byte first + bit_at byte (first + 1)) (bit_at byte (first + 2) + bit_at byte (first + 3)) }
+    ensures in_field { result < 3329 }
+{
+    let x = bit(byte, first) + bit(byte, first + 1);
+    let y = bit(byte, first + 2) + bit(byte, first + 3);
+    (Elem::<BaseField>::new(x) - Elem::new(y)).get()
+}
+
+// Bit `k` of a byte.
+#[inline(always)]
+fn bit(byte: u8, k: u32) -> u32
+    requires { k < 8 }
+    ensures value { result ≡ bit_at byte k }
+    ensures small { result ≤ 1 }
+{
+    ((byte >> k) & 1) as u32
 }
 
 fn fill_cbd(eta: usize, bytes: &[u8], out: &mut [u32])
@@ -163,7 +206,7 @@ fn bit_sum(bytes: &[u8], first: usize, count: usize) -> u32
     let mut sum = 0;
     for n in 0..count {
         let k = first + n;
-        sum += ((bytes[k / 8] >> (k % 8)) & 1) as u32;
+        sum += bit(bytes[k / 8], (k % 8) as u32);
     }
     sum
 }
