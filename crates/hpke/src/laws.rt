@@ -1,6 +1,6 @@
 //! What holds of the definitions that the contracts of this crate cite, and of the calls together.
 
-ghost use Rattle.std.specs.Prelude.{◌≡◌, ◌≢◌, ◌↔◌, ℕ, List, Option, None, Some, Err, IfOk, IsSome, OnOk, take};
+ghost use Rattle.std.specs.Prelude.{◌≡◌, ◌≢◌, ◌↔◌, ◌⊎◌, ℕ, List, Option, None, Some, Err, IfOk, IsSome, OnErr, OnOk, take};
 ghost use Rattle.std.specs.Option.{option_map};
 ghost use Rattle.sha2.specs.Sha256.{sha256};
 ghost use Rattle.sha2.specs.Sha512.{sha384, sha512};
@@ -12,11 +12,12 @@ ghost use Rattle.ml_kem.specs.Parameters.{Parameters};
 ghost use Rattle.hpke.specs.Answers.{Answers};
 ghost use Rattle.hpke.specs.Lattice.{lattice_decap, lattice_derive, lattice_encap, lattice_seed};
 ghost use Rattle.hpke.specs.Mask.{mask_decap, mask_encap, mask_public};
+ghost use Rattle.hpke.specs.Messages.{NumberedAnswers, used};
 ghost use Rattle.hpke.specs.Nonce.{nonce_of};
 ghost use Rattle.hpke.specs.RecipientMode.{recipient_mode, recipient_sender};
 ghost use Rattle.hpke.specs.SenderMode.{sender_mode, sender_identity};
 ghost use Rattle.hpke.specs.Schedule.{Context, Mode, Suite, suite_of, sender_setup, receiver_setup};
-ghost use Rattle.hpke.specs.declared.error.HpkeError.TheVariants.{EncapError, OpenError};
+ghost use Rattle.hpke.specs.declared.error.HpkeError.TheVariants.{EncapError, OpenError, SealError};
 
 use crate::aead::{Aead, BaseAead};
 use crate::aes_gcm::{AesGcm128, AesGcm256};
@@ -88,7 +89,8 @@ pub fn mask_decapsulates()
 
 /// Sets up a sender's context, and a recipient's from the encapsulated key that it gives. Where both
 /// modes bring the same to the key schedule and decapsulation gives the secret that encapsulation
-/// gave, both are one context, at number 0. `EncapError` comes exactly where `encap_of` is none.
+/// gave, both are one context, at number 0. It draws 32 bytes, also before a refusal. `EncapError` comes
+/// exactly where `encap_of` is none.
 pub fn set_up_both<A: Aead, D: Kdf, K: Kem, R: Rng>(
     alloc: Global,
     mode_sender: &OpModeS<'_, K>,
@@ -103,6 +105,7 @@ pub fn set_up_both<A: Aead, D: Kdf, K: Kem, R: Rng>(
         → K.encap_of (K.PublicKey.bytes pk_recip.now) (sender_identity K.PrivateKey.bytes K.PublicKey.bytes mode_sender.now)
         (fill_bytes 32 (R.stream csprng.old)).0 ≡ Some (secret, enc)
         → K.decap_of (K.PrivateKey.bytes sk_recip.now) (recipient_sender K.PublicKey.bytes mode_recip.now) enc ≡ Some secret }
+    ensures drawn { R.stream csprng.new ≡ (fill_bytes 32 (R.stream csprng.old)).1 }
     ensures value { Answers (λ sides. sides.0) EncapError result (option_map (λ made. made.1)
         (sender_setup (suite_of K.KEM_ID D.kdf A.aead) (sender_mode mode_sender.now) info.now
         (K.encap_of (K.PublicKey.bytes pk_recip.now) (sender_identity K.PrivateKey.bytes K.PublicKey.bytes mode_sender.now)
@@ -133,8 +136,10 @@ pub fn opens_what_was_sealed<A: Aead>()
 {}
 
 /// Seals a text in a sender's context and opens it in a recipient's, where both are one context: the
-/// text comes back, and both are one context afterwards, so that `number` answers the same. What was
-/// sealed is never refused by `OpenError`.
+/// text comes back, and both are one context afterwards, with the next number, so that `number` answers
+/// the same. What was sealed is never refused by `OpenError`: `MessageLimitReached` and `SealError` come
+/// as `seal` gives them. A refused call leaves the recipient's context as it was, and the sender's too,
+/// or with its number used.
 pub fn seal_then_open<A: Aead, D: Kdf, K>(
     alloc: Global,
     sender: &mut AeadCtxS<A, D, K>,
@@ -144,8 +149,12 @@ pub fn seal_then_open<A: Aead, D: Kdf, K>(
 ) -> Result<Vec<u8>, HpkeError>
     requires { sender.old ≡ recipient.old }
     ensures text { IfOk result (λ text. text.items ≡ plaintext.now) }
+    ensures value { NumberedAnswers (λ text. text.items) SealError result sender.old.next (λ number.
+        option_map (λ _. plaintext.now) (A.AeadImpl.seal_of sender.old.key (nonce_of sender.old.base_nonce number) aad.now plaintext.now)) }
+    ensures used { OnOk result (sender.new ≡ used sender.old) }
     ensures same { OnOk result (sender.new ≡ recipient.new) }
     ensures opens { result ≢ Err OpenError }
+    ensures refused { OnErr result ((recipient.new ≡ recipient.old) × ((sender.new ≡ sender.old) ⊎ (sender.new ≡ used sender.old))) }
 {
     let sealed = sender.seal(alloc, plaintext, aad)?;
     recipient.open(alloc, sealed.as_slice(), aad)
