@@ -1,5 +1,5 @@
 -- Words and a text have one due answer.
-use Rattle.std.proofs.Common.{◌≡◌, ◌≢◌, ◌⊎◌, ℕ, ◌≤◌, ◌<◌, List, [], ◌∷◌, ◌++◌, Option, Some, None, Ok, Err, get_or, refl, sym, ap, subst, ◌∙◌, inl, inr, arith}
+use Rattle.std.proofs.Common.{◌≡◌, ℕ, List, [], ◌∷◌, ◌++◌, Option, Some, None, Err, get_or, refl, sym, ap, subst, ◌∙◌, inl, inr, arith}
 use Rattle.std.specs.Prelude.{codes, decimal}
 use Rattle.std.proofs.lemmas.Fmt.{decimal_injective}
 use Rattle.kem_hash.specs.Family.{Family}
@@ -11,7 +11,7 @@ use Rattle.kem_mail.specs.Command.{Spells, words_of, set_word, kdf_word, aead_wo
 use Rattle.kem_mail.specs.Input.{IsHead, IsSeedLine, IsPart, FailsAt}
 use Rattle.kem_mail.specs.Lines.{fault_line}
 use Rattle.kem_mail.specs.Mail.{OpenMeaning, OpensByKey, Verdict, lattice_opener}
-use Rattle.kem_mail.specs.Due.{Due, ComesTo, IsInput, IsJudged, key_verdict, no_command_line, verdict_output, verdict_status}
+use Rattle.kem_mail.specs.Due.{Due, ComesTo, IsInput, key_verdict, no_command_line, verdict_output, verdict_status}
 use Rattle.kem_mail.specs.declared.command.Command.{Command}
 use Rattle.kem_mail.specs.declared.command.Command.TheVariants.{Open, Key}
 use Rattle.kem_mail.specs.declared.command.SuiteName.{SuiteName}
@@ -22,7 +22,7 @@ use Rattle.kem_mail.specs.declared.command.KdfName.TheVariants.{Sha256, Sha384, 
 use Rattle.kem_mail.specs.declared.command.AeadName.{AeadName}
 use Rattle.kem_mail.specs.declared.command.AeadName.TheVariants.{Aes128, Aes256}
 use Rattle.kem_mail.specs.declared.error.MailError.TheVariants.{XofExhausted}
-use Rattle.kem_mail.proofs.Inputs.{IsEnded, Stands, one_front, one_head_end, one_head_value, one_input_end, one_line_end, one_line_value, one_place, fails_no_part, some_input, whole_no_fails, whole_no_part}
+use Rattle.kem_mail.proofs.Inputs.{Stands, one_head_end, one_head_value, one_input_end, one_line_end, one_line_value, one_place, fails_no_part, some_input, whole_no_fails, whole_no_part}
 use Rattle.kem_mail.proofs.Verdicts.{same_verdict, some_verdict}
 
 -- ---- words

@@ -1,5 +1,5 @@
 -- What a mail comes to for the lattice key of a seed.
-use Rattle.std.proofs.Common.{◌≡◌, ◌≢◌, ◌⊎◌, ℕ, ◌≤◌, List, [], ◌++◌, length, Option, Some, None, Err, refl, sym, ap, subst, ◌∙◌, arith}
+use Rattle.std.proofs.Common.{◌≡◌, ◌≢◌, ◌⊎◌, ℕ, List, [], ◌++◌, length, Option, Some, None, Err, refl, sym, ap, subst, ◌∙◌, arith}
 use Rattle.std.specs.Prelude.{IfSome}
 use Rattle.std.specs.List.{flat_map}
 use Rattle.std.specs.Option.{option_map}
@@ -16,7 +16,6 @@ use Rattle.hpke.specs.Lattice.{lattice_kem_id, lattice_decap}
 use Rattle.kem_mail.specs.Mail.{IsVerdict, OpenMeaning, Opens, OpensByKey, Verdict, opener_of}
 use Rattle.kem_mail.specs.Taken.{IsTaken, IsShortBehindDone, Lost}
 use Rattle.kem_mail.specs.Parts.{of_kem}
-use Rattle.kem_mail.specs.declared.error.MailError.{MailError}
 use Rattle.kem_mail.specs.declared.error.MailError.TheVariants.{NoMemory}
 
 -- ---- without a key nothing is taken

@@ -1,13 +1,12 @@
 -- What a run told is what is due.
-use Rattle.std.proofs.Common.{◌≡◌, ◌≢◌, ◌⊎◌, ℕ, ◌≤◌, List, [], ◌∷◌, ◌++◌, Option, Some, None, Ok, Err, refl, sym, ap, subst, ◌∙◌, inl, inr, arith}
+use Rattle.std.proofs.Common.{◌≡◌, ◌≢◌, ◌⊎◌, ℕ, List, [], ◌∷◌, Option, Some, None, Ok, Err, refl, sym, subst, ◌∙◌, inl, inr, arith}
 use Rattle.std.specs.Prelude.{IfSome, codes}
 use Rattle.kem_hash.specs.Family.{Family}
 use Rattle.age_core.specs.Outside.{Rose, Gains, GainsPart}
 use Rattle.kem_mail.specs.Command.{Spells}
 use Rattle.kem_mail.specs.Due.{Due, ComesTo, IsAnswer, no_command_line}
 use Rattle.kem_mail.specs.Lines.{lines, fault_line, error_line}
-use Rattle.kem_mail.specs.Mail.{IsVerdict}
-use Rattle.kem_mail.specs.Parts.{IsErrorTold, IsRefused, IsTold, RunComes}
+use Rattle.kem_mail.specs.Parts.{IsRefused, IsTold, RunComes}
 use Rattle.kem_mail.specs.declared.command.Command.{Command}
 use Rattle.kem_mail.specs.declared.error.MailError.{MailError}
 use Rattle.kem_mail.specs.declared.error.MailError.TheVariants.{NoMemory, XofExhausted, ReadFault, InvalidData, UnexpectedEof, TooMuch, NotOneKem, IncorrectInputLength, OpenError}

@@ -8,6 +8,7 @@ use Rattle.std.proofs.lemmas.Option.{none-some}
 use Rattle.hex.specs.Hex.{encode_with, encode_lower, lower_digits}
 use Rattle.age_core.specs.Outside.{Gains, GainsPart}
 use Rattle.kem_mail.specs.Lines.{lines, spaced}
+use Rattle.kem_mail.specs.Parts.{Hands}
 
 pub gains_then : (a b c : Option (List ℕ)) (x y : List ℕ) → Gains a b x → Gains b c y → Gains a c (x ++ y)
 gains_then None b c x y h k = tt
@@ -29,6 +30,33 @@ pub part_front : (a c : Option (List ℕ)) (x z : List ℕ) → GainsPart a c x 
 part_front None c x z h = tt
 part_front (Some text) c x z h = (h.0, h.1 ++ z, ap (λ (t : List ℕ). t ++ z) h.2 ∙ append_assoc h.0 h.1 z, h.3)
 
+-- ---- what is held for the sink
+
+-- one output after another
+pub hands_then : (a b c : Option (List ℕ)) (p q r x y : List ℕ) → Hands a b p q x → Hands b c q r y → Hands a c p r (x ++ y)
+hands_then a b c p q r x y h k = (
+  h.0 ++ k.0,
+  gains_then a b c h.0 k.0 h.1 k.1,
+  sym (append_assoc p x y) ∙ (ap (λ (t : List ℕ). t ++ y) h.2 ∙ (append_assoc h.0 q y ∙ (ap (λ (t : List ℕ). h.0 ++ t) k.2 ∙ sym (append_assoc h.0 k.0 r)))),
+)
+
+-- behind an output, a part of what was held then was handed over: a part of the whole
+pub hands_part : (a b c : Option (List ℕ)) (p q x y : List ℕ) → Hands a b p q x → GainsPart b c q → GainsPart a c (p ++ (x ++ y))
+hands_part a b c p q x y h k =
+    let whole : p ++ (x ++ y) ≡ h.0 ++ (q ++ y) = sym (append_assoc p x y) ∙ (ap (λ (t : List ℕ). t ++ y) h.2 ∙ append_assoc h.0 q y) in
+    subst (GainsPart a c) (sym whole) (part_then a b c h.0 q y h.1 k)
+
+-- the same of a part of what was held and of another output
+pub hands_part_of : (a b c : Option (List ℕ)) (p q x y z : List ℕ) → Hands a b p q x → GainsPart b c (q ++ y) → GainsPart a c (p ++ (x ++ (y ++ z)))
+hands_part_of a b c p q x y z h k =
+    let whole : p ++ (x ++ (y ++ z)) ≡ h.0 ++ ((q ++ y) ++ z) =
+    sym (append_assoc p x (y ++ z)) ∙ (ap (λ (t : List ℕ). t ++ (y ++ z)) h.2 ∙ (append_assoc h.0 q (y ++ z) ∙ ap (λ (t : List ℕ). h.0 ++ t) (sym (append_assoc q y z)))) in
+    subst (GainsPart a c) (sym whole) (part_then a b c h.0 (q ++ y) z h.1 k)
+
+-- more is held, and more is due
+pub hands_pushed : (a b : Option (List ℕ)) (p q x y : List ℕ) → Hands a b p q x → Hands a b p (q ++ y) (x ++ y)
+hands_pushed a b p q x y h = (h.0, h.1, sym (append_assoc p x y) ∙ (ap (λ (t : List ℕ). t ++ y) h.2 ∙ append_assoc h.0 q y))
+
 -- ---- digits
 
 pub encode_with-append : (t xs ys : List ℕ) → encode_with t (xs ++ ys) ≡ encode_with t xs ++ encode_with t ys
@@ -43,30 +71,20 @@ pub encode_nothing : encode_lower [] ≡ []
 unfolding encode_with
 encode_nothing = refl
 
--- a chunk more was written
-pub digits_more : (before mid now : Option (List ℕ)) (n : ℕ) (whole written bytes : List ℕ) → whole ≡ written ++ encode_lower bytes → Gains before mid written → Gains mid now (encode_lower (take n bytes))
-    → (more : List ℕ) × (whole ≡ more ++ encode_lower (drop n bytes)) × Gains before now more
-digits_more before mid now n whole written bytes is h k = (
-  written ++ encode_lower (take n bytes),
-  is ∙ (ap (λ (t : List ℕ). written ++ t) (encode_split n bytes) ∙ sym (append_assoc written (encode_lower (take n bytes)) (encode_lower (drop n bytes)))),
-  gains_then before mid now written (encode_lower (take n bytes)) h k,
+-- a chunk more was written or is held
+pub digits_more : (before mid now : Option (List ℕ)) (n : ℕ) (p q r whole done bytes : List ℕ) → whole ≡ done ++ encode_lower bytes → Hands before mid p q done → Hands mid now q r (encode_lower (take n bytes))
+    → (more : List ℕ) × (whole ≡ more ++ encode_lower (drop n bytes)) × Hands before now p r more
+digits_more before mid now n p q r whole done bytes is h k = (
+  done ++ encode_lower (take n bytes),
+  is ∙ (ap (λ (t : List ℕ). done ++ t) (encode_split n bytes) ∙ sym (append_assoc done (encode_lower (take n bytes)) (encode_lower (drop n bytes)))),
+  hands_then before mid now p q r done (encode_lower (take n bytes)) h k,
 )
 
--- no byte is left, and so all digits were written
-pub digits_all : (before mid : Option (List ℕ)) (whole written rest : List ℕ) (none : Bool) → none ≡ (length rest == 0) → none ≡ true → whole ≡ written ++ encode_lower rest → Gains before mid written → Gains before mid whole
-digits_all before mid whole written rest none is t split h =
+-- no byte is left, and so no digits are
+pub digits_all : (whole done rest : List ℕ) (none : Bool) → none ≡ (length rest == 0) → none ≡ true → whole ≡ done ++ encode_lower rest → done ≡ whole
+digits_all whole done rest none is t split =
     let nil : rest ≡ [] = nil_from_length rest (eqb-true (length rest) 0 (sym is ∙ t)) in
-    let all : whole ≡ written = split ∙ (ap (λ (bytes : List ℕ). written ++ encode_lower bytes) nil ∙ (ap (λ (t : List ℕ). written ++ t) encode_nothing ∙ append-nil written)) in
-    subst (Gains before mid) (sym all) h
-
--- a part of a chunk was written
-pub digits_part : (before mid now : Option (List ℕ)) (n : ℕ) (whole written bytes tail : List ℕ) → whole ≡ written ++ encode_lower bytes → Gains before mid written → GainsPart mid now (encode_lower (take n bytes))
-    → GainsPart before now (whole ++ tail)
-digits_part before mid now n whole written bytes tail is h k =
-    let front = encode_lower (take n bytes) in
-    let back = encode_lower (drop n bytes) in
-    let split : whole ++ tail ≡ written ++ (front ++ (back ++ tail)) = ap (λ (t : List ℕ). t ++ tail) (is ∙ ap (λ (t : List ℕ). written ++ t) (encode_split n bytes)) ∙ simp append_assoc in
-    subst (GainsPart before now) (sym split) (part_then before mid now written front (back ++ tail) h k)
+    sym (split ∙ (ap (λ (bytes : List ℕ). done ++ encode_lower bytes) nil ∙ (ap (λ (t : List ℕ). done ++ t) encode_nothing ∙ append-nil done)))
 
 -- ---- lines
 

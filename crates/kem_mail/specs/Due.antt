@@ -1,5 +1,5 @@
 -- What a run owes for its words and for the bytes that its source tells: a status and an output.
-use Rattle.std.specs.Prelude.{◌≡◌, ℕ, List, [], ◌∷◌, ◌++◌, codes, Option, Some, None, Result, Ok, Err, ◌⊎◌}
+use Rattle.std.specs.Prelude.{◌≡◌, ℕ, List, [], ◌∷◌, ◌++◌, codes, Option, Some, None, Ok, Err, ◌⊎◌}
 use Rattle.kem_hash.specs.Family.{Family}
 use Rattle.ml_kem.specs.Keys.{Key as KeyRecord, key_of}
 use Rattle.gcm_core.specs.Gcm.{open_of}

@@ -1,5 +1,5 @@
 -- What private calls answer. No public clause cites it.
-use Rattle.std.specs.Prelude.{◌≡◌, ◌≢◌, ℕ, ◌+◌, ◌≤◌, List, [], ◌∷◌, length, codes, ◌⊎◌, Option, None, IfSome, Result, Ok, Err}
+use Rattle.std.specs.Prelude.{◌≡◌, ◌≢◌, ℕ, ◌+◌, ◌≤◌, List, [], ◌∷◌, ◌++◌, length, codes, ◌⊎◌, Option, None, IfSome, Result, Ok, Err}
 use Rattle.kem_hash.specs.Family.{Family}
 use Rattle.ml_kem.specs.Parameters.{Parameters}
 use Rattle.ml_kem.specs.Keys.{key_of}
@@ -21,6 +21,11 @@ use Rattle.kem_mail.specs.declared.error.MailError.{MailError}
 use Rattle.kem_mail.specs.declared.error.MailError.TheVariants.{NoMemory, XofExhausted, ReadFault, InvalidData, UnexpectedEof, TooMuch, NotOneKem, IncorrectInputLength, OpenError}
 use Rattle.kem_mail.specs.declared.error.RunError.{RunError}
 use Rattle.kem_mail.specs.declared.error.RunError.TheVariants.{Place, Ended, Mail}
+
+-- where a sink tells what it got, it gained the front of what was held and of this output; the rest is
+-- held
+abbrev pub Hands : Option (List ℕ) → Option (List ℕ) → List ℕ → List ℕ → List ℕ → Type 0
+Hands before now held left output = (written : List ℕ) × Gains before now written × (held ++ output ≡ written ++ left)
 
 -- one byte was taken, or none
 abbrev pub ByteTaken : Result ℕ RunError → List ℕ → Type 0

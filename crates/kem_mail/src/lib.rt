@@ -9,6 +9,7 @@ mod lines;
 mod list;
 mod mail;
 mod open;
+mod pending;
 mod run;
 
 pub use error::MailError;

@@ -4,35 +4,34 @@ ghost use Rattle.std.specs.Prelude.{◌≡◌, ◌≤◌, ◌∷◌, ◌++◌, [
 ghost use Rattle.hex.specs.Hex.{encode_lower};
 ghost use Rattle.age_core.specs.Outside.{Rose, Gains, GainsPart};
 ghost use Rattle.kem_mail.specs.Lines.{lines, spaced, fault_line};
+ghost use Rattle.kem_mail.specs.Parts.{Hands};
 
 use crate::list::MessageList;
+use crate::pending::{PIECE, Pending};
 use age_core::outside::{Failed, Sink, write_all};
 use itoa::Buffer;
 
-/// The most bytes that are turned into digits at once.
-const CHUNK: usize = 2048;
+/// The most bytes whose digits are appended at once: a piece has room for them.
+const CHUNK: usize = PIECE / 2;
 
-/// Writes bytes, [`CHUNK`] at most, in lower-case hexadecimal digits.
-fn write_digits<W: Sink>(out: &mut W, bytes: &[u8]) -> Result<(), Failed>
+/// Appends the digits of bytes, [`CHUNK`] at most, to what is next for the sink.
+fn write_digits<W: Sink>(out: &mut W, pending: &mut Pending, bytes: &[u8]) -> Result<(), Failed>
     requires { length bytes.now ≤ CHUNK }
-    ensures written { OnOk result (Gains (W.got out.old) (W.got out.new) (encode_lower bytes.now)) }
-    ensures part { OnErr result (GainsPart (W.got out.old) (W.got out.new) (encode_lower bytes.now)) }
+    ensures written { OnOk result (Hands (W.got out.old) (W.got out.new) pending.old pending.new (encode_lower bytes.now)) }
+    ensures part { OnErr result (GainsPart (W.got out.old) (W.got out.new) pending.old) }
     ensures failed { OnErr result (Rose (W.faults out.old) (W.faults out.new)) }
     ensures plan { W.plan out.new ≡ W.plan out.old }
     ensures faults { W.faults out.old ≤ W.faults out.new }
 {
-    let mut digits = [0; 2 * CHUNK];
-    let digits = &mut digits[..2 * bytes.len()];
-    let Ok(()) = hex::encode_to_slice(bytes, digits) else {
-        unreachable!();
-    };
-    write_all(out, digits)
+    pending.make_room(out, 2 * bytes.len())?;
+    pending.push_digits(bytes);
+    Ok(())
 }
 
-/// Writes an item in lower-case hexadecimal digits, and a line feed.
-fn write_line<W: Sink>(out: &mut W, item: &[u8]) -> Result<(), Failed>
-    ensures written { OnOk result (Gains (W.got out.old) (W.got out.new) (encode_lower item.now ++ 10 ∷ [])) }
-    ensures part { OnErr result (GainsPart (W.got out.old) (W.got out.new) (encode_lower item.now ++ 10 ∷ [])) }
+/// Appends the digits of an item, and a line feed, to what is next for the sink.
+fn write_line<W: Sink>(out: &mut W, pending: &mut Pending, item: &[u8]) -> Result<(), Failed>
+    ensures written { OnOk result (Hands (W.got out.old) (W.got out.new) pending.old pending.new (encode_lower item.now ++ 10 ∷ [])) }
+    ensures part { OnErr result (GainsPart (W.got out.old) (W.got out.new) (pending.old ++ (encode_lower item.now ++ 10 ∷ []))) }
     ensures failed { OnErr result (Rose (W.faults out.old) (W.faults out.new)) }
     ensures plan { W.plan out.new ≡ W.plan out.old }
     ensures faults { W.faults out.old ≤ W.faults out.new }
@@ -40,10 +39,12 @@ fn write_line<W: Sink>(out: &mut W, item: &[u8]) -> Result<(), Failed>
     let mut rest = item;
     while !rest.is_empty() {
         let (front, back) = rest.split_at(rest.len().min(CHUNK));
-        write_digits(out, front)?;
+        write_digits(out, pending, front)?;
         rest = back;
     }
-    write_all(out, b"\n")
+    pending.make_room(out, 1)?;
+    pending.push(b'\n');
+    Ok(())
 }
 
 /// Writes each item as a line.
@@ -54,13 +55,14 @@ pub fn write_lines<W: Sink>(out: &mut W, items: &MessageList) -> Result<(), Fail
     ensures plan { W.plan out.new ≡ W.plan out.old }
     ensures faults { W.faults out.old ≤ W.faults out.new }
 {
+    let mut pending = Pending::new();
     for i in 0..items.len() {
         let Some(item) = items.get(i) else {
             unreachable!();
         };
-        write_line(out, item)?;
+        write_line(out, &mut pending, item)?;
     }
-    Ok(())
+    pending.hand_over(out)
 }
 
 /// Writes a space and a number in decimal.

@@ -1,4 +1,4 @@
-use Rattle.std.proofs.Common.{◌∷◌, [], ℕ, List, ◌++◌, ap, subst, append_assoc}
+use Rattle.std.proofs.Common.{◌∷◌, [], ℕ, List, ◌++◌, subst, append_assoc}
 use Rattle.std.proofs.lemmas.Result.{err_from_is_err_and, on_err_weaker}
 use Rattle.age_core.specs.Outside.{GainsPart}
 use Rattle.kem_mail.specs.Lines.{spaced}

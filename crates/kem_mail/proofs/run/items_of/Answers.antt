@@ -9,7 +9,6 @@ use Rattle.kem_mail.specs.declared.command.Command.TheVariants.{Open, Key}
 use Rattle.kem_mail.specs.declared.input.Head.{Head}
 use Rattle.kem_mail.specs.declared.error.MailError.{MailError}
 use Rattle.kem_mail.specs.declared.error.MailError.TheVariants.{ReadFault}
-use Rattle.kem_mail.specs.declared.error.RunError.{RunError}
 use Rattle.kem_mail.specs.declared.error.RunError.TheVariants.{Mail}
 use Rattle.kem_mail.proofs.Runs.{refused_takes_open, refused_takes_key, refused_comes, open_takes, open_faults, key_takes}
 use Rattle.kem_mail.proofs.run.items_of.Goals as goal
