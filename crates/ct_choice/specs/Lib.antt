@@ -3,5 +3,5 @@
 pub mod Truth
 -- differences of words
 pub mod Words
--- the laws of `<`
-pub mod Order
+-- proofs that `impl`s cite: no definitions
+pub mod private

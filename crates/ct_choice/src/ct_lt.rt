@@ -1,7 +1,7 @@
 // `CtLt`: which of two values is less.
 ghost use Rattle.std.specs.Prelude.{◌≡◌, Bool, false, true, nat_lt};
 ghost use Rattle.std.specs.Ordering.{ordering_index};
-ghost use Rattle.ct_choice.specs.Order.{nat_lt-irreflexive, nat_lt-transitive};
+ghost use Rattle.ct_choice.specs.private.Order.{nat_lt-irreflexive, nat_lt-transitive};
 
 use crate::choices::Choice;
 use std::cmp::Ordering;

@@ -5,5 +5,5 @@ pub mod Options
 pub mod Lending
 -- what a search asks of its predicate
 pub mod Search
--- equalities that agree
-pub mod Agreement
+-- proofs that `impl`s cite: no definitions
+pub mod private

@@ -1,8 +1,6 @@
 -- Options that always hold a value: what an `Option` shows of one, and the lenders of its value.
 use Rattle.std.specs.Prelude.{Bool, true, ◌&&◌, Option, None, Some, if◌then◌else◌}
 use Rattle.std.specs.Option.{option_eq}
-use Rattle.std.specs.Cmp.{IsEquivalence, on_equiv}
-use Rattle.std.proofs.Common.{rules}
 use Rattle.ctutils.specs.declared.ct_option.CtOption.{CtOption}
 
 -- some of a value
@@ -20,8 +18,3 @@ into_option o = if o.is_some then Some o.value else None
 -- both are none, or both are some and their values are equal
 abbrev pub ct_option_eq : {T : Type 0} → (T → T → Bool) → CtOption T → CtOption T → Bool
 ct_option_eq eq a b = option_eq eq (into_option a) (into_option b)
-
--- an equivalence of values gives one of options
-pub ct_option_eq-equivalence : {T : Type 0} {eq : T → T → Bool} → IsEquivalence eq → IsEquivalence (ct_option_eq eq)
-ct_option_eq-equivalence e =
-    let options : IsEquivalence (option_eq _) = search (rules, e) in on_equiv into_option options

@@ -313,7 +313,7 @@ impl<T: CtEqSlice, const N: usize> CtEq for [T; N] {
 impl<T: CtEqSlice, const N: usize> CtEqSlice for [T; N] {}
 
 impl<T: CtEqSlice + CtEqAgrees, const N: usize> CtEqAgrees for [T; N] {
-    ghost use Rattle.ctutils.specs.Agreement.{pointwise-agrees};
+    ghost use Rattle.ctutils.specs.private.Agreement.{pointwise-agrees};
 
     ghost agrees = { pointwise-agrees T.ct_eq T.eq T.CtEqAgrees.agrees };
 }

@@ -4,7 +4,8 @@ ghost use Rattle.std.specs.Fn.{FnOnceTakesAt, FnOnceReturnsAt};
 ghost use Rattle.ct_choice.specs.Truth.{xor};
 ghost use Rattle.std.specs.Borrow.{sem};
 ghost use Rattle.ctutils.specs.Lending.{LendsValue, LendsSomeOf};
-ghost use Rattle.ctutils.specs.Options.{some_of, filter_by, into_option, ct_option_eq, ct_option_eq-equivalence};
+ghost use Rattle.ctutils.specs.Options.{some_of, filter_by, into_option, ct_option_eq};
+ghost use Rattle.ctutils.specs.private.OptionLaws.{ct_option_eq-equivalence};
 
 use crate::ct_assign::{CtAssign, CtAssignSlice};
 use crate::ct_eq::{CtEq, CtEqSlice};

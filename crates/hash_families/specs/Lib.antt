@@ -1,2 +1,4 @@
--- the family whose XOF repeats three bytes, with its laws
+-- the family whose XOF repeats three bytes
 pub mod Repeating
+-- proofs that `impl`s cite: no definitions
+pub mod private

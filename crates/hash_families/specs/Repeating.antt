@@ -1,41 +1,9 @@
--- The family of hash functions whose XOF repeats three bytes, and that it is lawful.
-use Rattle.std.proofs.Common.{◌≡◌, ℕ, ◌*◌, ◌<◌, ◌∙◌, List, [], ◌∷◌, ◌++◌, refl, ap, ap₂, arith, zero, suc, ◌+◌, length-append}
+-- The family of hash functions whose XOF repeats three bytes.
+use Rattle.std.specs.Prelude.{ℕ, List}
 use Rattle.std.specs.List.{flat_map, range_with_len}
-use Rattle.std.proofs.lemmas.List.Elements.{All-append, All-cons, All-nil}
-use Rattle.kem_hash.specs.Family.{AreBytes, Family, IsLawful}
+use Rattle.kem_hash.specs.Family.{Family}
 use Rattle.kem_hash.specs.Sha2.{sha2_family}
-use Rattle.kem_hash.specs.Sha2Laws.{sha2_family-is_lawful}
 
 -- the other functions are those of SHA-2; XOF has 2688 bytes
 abbrev pub repeating_family : List ℕ → Family
 repeating_family bytes = record sha2_family { xof_of = λ rho a b. flat_map (λ i. bytes) (range_with_len 0 896) }
-
-repeated-are_bytes : (bytes : List ℕ) → AreBytes 3 bytes → (a n : ℕ) → AreBytes (3 * n) (flat_map (λ i. bytes) (range_with_len a n))
-repeated-are_bytes bytes are a zero = record { size = refl; each = All-nil (λ x. x < 256) }
-repeated-are_bytes bytes are a (suc n) =
-    let rest : AreBytes (3 * n) (flat_map (λ i. bytes) (range_with_len (a + 1) n)) = repeated-are_bytes bytes are (a + 1) n in
-    record {
-      size = length-append bytes (flat_map (λ i. bytes) (range_with_len (a + 1) n)) ∙ ap₂ (λ (i j : ℕ). i + j) are.size rest.size ∙ omega arith;
-      each = All-append (λ x. x < 256) bytes (flat_map (λ i. bytes) (range_with_len (a + 1) n)) are.each rest.each;
-    }
-
-pub repeating_family-is_lawful : (bytes : List ℕ) → AreBytes 3 bytes → IsLawful (repeating_family bytes)
-repeating_family-is_lawful bytes are = record {
-  g_is = sha2_family-is_lawful.g_is;
-  h_is = sha2_family-is_lawful.h_is;
-  j_is = sha2_family-is_lawful.j_is;
-  prf_is = sha2_family-is_lawful.prf_is;
-  xof_is = λ rho a b. repeated-are_bytes bytes are 0 896;
-}
-
--- three numbers below 256
-pub three_bytes : (x y z : ℕ) → x < 256 → y < 256 → z < 256 → AreBytes 3 (x ∷ y ∷ z ∷ [])
-three_bytes x y z hx hy hz = record {
-  size = refl;
-  each = All-cons (λ x. x < 256) x (y ∷ z ∷ []) hx (All-cons (λ x. x < 256) y (z ∷ []) hy (All-cons (λ x. x < 256) z [] hz (All-nil (λ x. x < 256))));
-}
-
--- where all pieces are the same, only how many there are counts
-pub same-joined : (bytes : List ℕ) (a b n : ℕ) → flat_map (λ i. bytes) (range_with_len a n) ≡ flat_map (λ i. bytes) (range_with_len b n)
-same-joined bytes a b zero = refl
-same-joined bytes a b (suc n) = ap (λ (t : List ℕ). bytes ++ t) (same-joined bytes (a + 1) (b + 1) n)

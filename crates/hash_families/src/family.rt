@@ -13,7 +13,8 @@ pub struct RepeatingHash<P: Pattern> {
 }
 
 impl<P: Pattern> KemHash for RepeatingHash<P> {
-    ghost use Rattle.hash_families.specs.Repeating.{repeating_family, repeating_family-is_lawful};
+    ghost use Rattle.hash_families.specs.Repeating.{repeating_family};
+    ghost use Rattle.hash_families.specs.private.RepeatingLaws.{repeating_family-is_lawful};
 
     ghost family = { repeating_family P.bytes };
 

@@ -22,7 +22,7 @@ pub struct Zeros;
 impl Pattern for Zeros {
     ghost use Rattle.std.specs.Prelude.{[], ◌∷◌};
     ghost use Rattle.std.proofs.Common.{lit<};
-    ghost use Rattle.hash_families.specs.Repeating.{three_bytes};
+    ghost use Rattle.hash_families.specs.private.RepeatingLaws.{three_bytes};
 
     ghost bytes = { 0 ∷ 0 ∷ 0 ∷ [] };
 
@@ -39,7 +39,7 @@ pub struct Ones;
 impl Pattern for Ones {
     ghost use Rattle.std.specs.Prelude.{[], ◌∷◌};
     ghost use Rattle.std.proofs.Common.{lit<};
-    ghost use Rattle.hash_families.specs.Repeating.{three_bytes};
+    ghost use Rattle.hash_families.specs.private.RepeatingLaws.{three_bytes};
 
     ghost bytes = { 255 ∷ 255 ∷ 255 ∷ [] };
 
@@ -56,7 +56,7 @@ pub struct SmallAndFifty;
 impl Pattern for SmallAndFifty {
     ghost use Rattle.std.specs.Prelude.{[], ◌∷◌};
     ghost use Rattle.std.proofs.Common.{lit<};
-    ghost use Rattle.hash_families.specs.Repeating.{three_bytes};
+    ghost use Rattle.hash_families.specs.private.RepeatingLaws.{three_bytes};
 
     ghost bytes = { 1 ∷ 32 ∷ 3 ∷ [] };
 
@@ -73,7 +73,7 @@ pub struct AboutModulus;
 impl Pattern for AboutModulus {
     ghost use Rattle.std.specs.Prelude.{[], ◌∷◌};
     ghost use Rattle.std.proofs.Common.{lit<};
-    ghost use Rattle.hash_families.specs.Repeating.{three_bytes};
+    ghost use Rattle.hash_families.specs.private.RepeatingLaws.{three_bytes};
 
     ghost bytes = { 1 ∷ 13 ∷ 208 ∷ [] };
 

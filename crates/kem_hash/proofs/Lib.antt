@@ -1,1 +1,2 @@
+-- pieces that are written one behind another
 pub mod Joined

@@ -2,5 +2,5 @@
 pub mod Family
 -- the family that stands on SHA-2
 pub mod Sha2
--- the laws of that family: proofs, and no definitions
-pub mod Sha2Laws
+-- proofs that an `impl` cites: no definitions
+pub mod private

@@ -3,6 +3,7 @@
 #![tactic(auto)]
 
 mod family;
+pub mod laws;
 mod sha2_hash;
 
 pub use family::{KemHash, XOF_BLOCK_SIZE};

@@ -39,7 +39,7 @@ pub struct Sha2Hash;
 
 impl KemHash for Sha2Hash {
     ghost use Rattle.kem_hash.specs.Sha2.{sha2_family};
-    ghost use Rattle.kem_hash.specs.Sha2Laws.{sha2_family-is_lawful};
+    ghost use Rattle.kem_hash.specs.private.Sha2Laws.{sha2_family-is_lawful};
 
     ghost family = { sha2_family };
 

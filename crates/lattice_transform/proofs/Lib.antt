@@ -12,6 +12,8 @@ pub mod Powers
 pub mod Cross
 -- the transform and its inverse undo each other
 pub mod Inverse
+-- the transform and its inverse make polynomials
+pub mod Polynomials
 -- the transform keeps sums
 pub mod SumLaw
 -- the weights of the powers of X in one pair

@@ -9,21 +9,11 @@ use Rattle.lattice_transform.specs.Layers.{inverse_layer, inverse_layers, layer,
 use Rattle.lattice_transform.specs.Transform.{inverse_coefficient, inverse_transform}
 use Rattle.lattice_transform.proofs.Back.{IsMultiple, Opposites, layer-undone}
 use Rattle.lattice_transform.proofs.Inverse.{length-inverse, transform-inverse}
-use Rattle.lattice_transform.proofs.Places.{all-below-pairs}
+use Rattle.lattice_transform.proofs.Polynomials.{IsPolynomial-inverse}
 use Rattle.lattice_transform.proofs.Remainders.{length-layer}
 use Rattle.lattice_transform.proofs.Roots.{from_table}
 use Rattle.lattice_transform.proofs.Seven.{layers-transform}
 use Rattle.lattice_transform.proofs.Sums.{times-mod}
-
--- ---- the inverse is a polynomial
-
-pub IsPolynomial-inverse : (h : List ℕ) → IsPolynomial 3329 (inverse_transform h)
-unfolding inverse_transform
-IsPolynomial-inverse h = record {
-  size = length-inverse h;
-  each = λ k d inside. rw (get_or_default (inverse_transform h) k d 0 inside)
-      (all-below-pairs (inverse_coefficient h) 128 3329 (λ parity j low inside. mod-lt _ (omega arith)) k (omega (arith, inside, length-inverse h)));
-}
 
 -- ---- the zetas of the way back, by computation
 

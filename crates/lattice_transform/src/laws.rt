@@ -13,6 +13,13 @@ pub fn transforms_undo_each_other()
     ensures transform { (h : List ℕ) → IsPolynomial 3329 h → transform (inverse_transform h) ≡ h }
 {}
 
+/// What the transform and its inverse make are polynomials, lists of 256 numbers below 3329, whatever
+/// list they are made of.
+pub fn transforms_are_polynomials()
+    ensures transform { (f : List ℕ) → IsPolynomial 3329 (transform f) }
+    ensures inverse { (h : List ℕ) → IsPolynomial 3329 (inverse_transform h) }
+{}
+
 /// The transform of a sum is the sum of the transforms.
 pub fn transform_keeps_sums()
     ensures { (f g : List ℕ) → IsPolynomial 3329 f → IsPolynomial 3329 g
@@ -44,6 +51,7 @@ pub fn layers_are_the_transform()
 /// Compression to `d` bits (FIPS 203, section 4.2.1) by a multiplier in place of a division: 5160669 is
 /// 2^34 over 3329, rounded down.
 pub fn compression_by_multiplier()
-    ensures { (d x : ℕ) → d ≤ 11 → x < 3329
+    ensures multiplier { 5160669 ≡ 2 ^ 34 / 3329 }
+    ensures value { (d x : ℕ) → d ≤ 11 → x < 3329
         → (x * 2 ^ d + 1665) * 5160669 / 2 ^ 34 % 2 ^ d ≡ (2 ^ (d + 1) * x + 3329) / (2 * 3329) % 2 ^ d }
 {}

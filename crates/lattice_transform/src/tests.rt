@@ -13,6 +13,7 @@ use std::sync::ledger::{Blank, Ledger};
 #[test]
 fn laws_are_called(_rt: HostRuntime) {
     laws::transforms_undo_each_other();
+    laws::transforms_are_polynomials();
     laws::transform_keeps_sums();
     laws::products_are_pair_products();
     laws::worked_transforms();

@@ -18,7 +18,7 @@ use Rattle.lattice_transform.proofs.SumLaw.{transform-sum}
 use Rattle.ml_kem.specs.Matrix.{column, noise, noise_polynomial, transposed}
 use Rattle.kem_hash.specs.Family.{Family}
 use Rattle.ml_kem.proofs.Ranges.{All-values}
-use Rattle.ml_kem.proofs.Transforms.{IsPolynomial-transform}
+use Rattle.lattice_transform.proofs.Polynomials.{IsPolynomial-transform}
 
 -- ---- vectors of transforms
 

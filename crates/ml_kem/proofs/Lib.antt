@@ -10,5 +10,4 @@ mod Reduced
 mod Rounded
 mod Taken
 mod Totals
-mod Transforms
 pub mod Secrets

@@ -49,8 +49,8 @@ hash_part set bytes = take 32 (drop (vector_size set + set.ek_size) bytes)
 abbrev pub z_part : Parameters → List ℕ → List ℕ
 z_part set bytes = drop (vector_size set + set.ek_size + 32) bytes
 
--- the checks of an expanded form: its length, its encapsulation key and the hash of that key (section
--- 7.3)
+-- the checks of an expanded form: its length and the hash of its public part (section 7.3), and that the
+-- public part is an encapsulation key (section 7.2), which the standard doesn't ask for here
 pub record IsExpandedKey (set : Parameters) (family : Family) (bytes : List ℕ) : Type 0 where
   pub size : length bytes ≡ set.dk_size
   pub public : IsEncapsulationKey set (public_part set bytes)

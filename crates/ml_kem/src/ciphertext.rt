@@ -27,7 +27,7 @@ impl<P: ParameterSet> Model for Ciphertext<P> {
 
 impl<P: ParameterSet> Ciphertext<P> {
     /// The ciphertext of these bytes. `WrongLength`, with CT_SIZE and the length that was given, comes
-    /// exactly for another length.
+    /// exactly for another length, and `NoMemory` at want of memory.
     pub fn from_slice(alloc: Global, bytes: &[u8]) -> Result<Ciphertext<P>, CiphertextError>
         ensures value { IfOk result (λ c. c ≡ bytes.now) }
         ensures size { IfOk result (λ _. length bytes.now ≡ P.CT_SIZE) }

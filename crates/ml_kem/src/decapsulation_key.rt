@@ -10,12 +10,13 @@ ghost use Rattle.module_lattice.specs.Vectors.{matrix_product, vector_sum, RowsH
 ghost use Rattle.lattice_transform.specs.Transform.{inverse_transform, transform};
 ghost use Rattle.ml_kem.specs.Encapsulation.{decaps};
 ghost use Rattle.ml_kem.specs.Expanded.{SecretKey, key_of_seed};
-ghost use Rattle.ml_kem.specs.Keys.{key_of};
+ghost use Rattle.ml_kem.specs.Keys.{IsEncapsulationKey, key_of};
 ghost use Rattle.ml_kem.specs.Matrix.{noise};
 ghost use Rattle.ml_kem.specs.declared.error.KemError.TheVariants.{XofExhausted};
 
+use crate::bytes::{halves, joined};
 use crate::ciphertext::Ciphertext;
-use crate::encapsulation_key::{EncapsulationKey, halves};
+use crate::encapsulation_key::EncapsulationKey;
 use crate::encryption::decrypt;
 use crate::error::KemError;
 use crate::matrix::{noise_transforms, sample_matrix};
@@ -54,9 +55,11 @@ impl<P: ParameterSet, H: KemHash> DecapsulationKey<P, H> {
     /// ML-KEM.KeyGen_internal (algorithm 16): the key of d, the first half of the seed, and z, the
     /// second.
     ///
-    /// `XofExhausted` comes exactly where an entry of the matrix has fewer than 256 numbers below 3329.
+    /// `XofExhausted` comes exactly where an entry of the matrix has fewer than 256 numbers below 3329, and
+    /// `NoMemory` at want of memory. The public key passes the checks of [`EncapsulationKey::new`].
     pub fn from_seed(alloc: Global, seed: &Seed) -> Result<DecapsulationKey<P, H>, KemError>
-        ensures { Answers (λ key. key) result (option_map (key_of_seed seed.now) (key_of P.set H.family seed.now)) }
+        ensures value { Answers (λ key. key) result (option_map (key_of_seed seed.now) (key_of P.set H.family seed.now)) }
+        ensures is { IfOk result (λ key. IsEncapsulationKey P.set key.ek) }
     {
         let (d, z) = halves(seed);
         let made = H::g(&d, &[P::K as u8]);
@@ -76,7 +79,8 @@ impl<P: ParameterSet, H: KemHash> DecapsulationKey<P, H> {
     /// ML-KEM.KeyGen (algorithm 19) by the random source: d, then z, 32 bytes each, which are drawn by one
     /// call of `fill_bytes` each, also before a refusal.
     ///
-    /// `XofExhausted` comes exactly where an entry of the matrix has fewer than 256 numbers below 3329.
+    /// `XofExhausted` comes exactly where an entry of the matrix has fewer than 256 numbers below 3329, and
+    /// `NoMemory` at want of memory.
     pub fn generate_from_rng<R: Rng>(
         alloc: Global,
         rng: &mut R,
@@ -96,7 +100,7 @@ impl<P: ParameterSet, H: KemHash> DecapsulationKey<P, H> {
     /// where the message that it decrypts to encrypts to another ciphertext.
     ///
     /// `XofExhausted` comes exactly where an entry of the matrix has fewer than 256 numbers below 3329, so
-    /// never for a key from a seed.
+    /// never for a key from a seed, and `NoMemory` at want of memory.
     pub fn decapsulate(&self, c: &Ciphertext<P>) -> Result<SharedKey, KemError>
         ensures value { Answers (λ key. key) result (decaps P.set H.family self.now.s self.now.ek self.now.z c.now) }
         ensures from_seed { IsSome self.now.seed → result ≢ Err XofExhausted }
@@ -126,10 +130,13 @@ impl<P: ParameterSet, H: KemHash> DecapsulationKey<P, H> {
         self.to_seed()
     }
 
-    /// The public key.
+    /// The public key, which passes the checks of [`EncapsulationKey::new`].
     pub fn encapsulation_key(&self) -> &EncapsulationKey<P, H>
-        ensures { result.now ≡ self.now.ek }
+        ensures value { result.now ≡ self.now.ek }
+        ensures is { IsEncapsulationKey P.set self.now.ek }
     {
+        // Whose contract tells that the key passes the checks.
+        let _ = self.ek.as_slice();
         &self.ek
     }
 
@@ -197,24 +204,6 @@ impl<P: ParameterSet, H: KemHash> PartialEq for DecapsulationKey<P, H> {
     fn eq(&self, other: &Self) -> bool {
         self.s_hat == other.s_hat && self.ek == other.ek && self.z == other.z
     }
-}
-
-// 64 bytes of two halves.
-fn joined(first: &B32, second: &B32) -> Seed
-    ensures { result ≡ first.now ++ second.now }
-{
-    let mut out = [0; 64];
-    write_joined(first, second, &mut out);
-    out
-}
-
-fn write_joined(first: &[u8], second: &[u8], out: &mut [u8])
-    requires { length out.old ≡ length first.now + length second.now }
-    ensures { out.new ≡ first.now ++ second.now }
-{
-    let end = first.len();
-    out[..end].copy_from_slice(first);
-    out[end..].copy_from_slice(second);
 }
 
 // The transforms of t: A·s and noise.

@@ -12,6 +12,7 @@ ghost use Rattle.ml_kem.specs.Keys.{IsEncapsulationKey, IsReduced};
 ghost use Rattle.ml_kem.specs.Kept.{IsMatrix};
 ghost use Rattle.ml_kem.specs.declared.error.KeyError.TheVariants.{InvalidKey, NoMemory};
 
+use crate::bytes::halves;
 use crate::ciphertext::Ciphertext;
 use crate::encryption::{NUMBER_BITS, encrypt, encrypt_under};
 use crate::error::{KemError, KeyError};
@@ -24,7 +25,7 @@ use std::alloc::{AllocError, Global};
 use std::marker::{Model, PhantomData};
 
 /// An encapsulation key: EK_SIZE bytes, which contracts see. One that was made of a seed keeps the
-/// matrix, which then isn't sampled again.
+/// matrix as well, of which no contract tells: its body has no need to sample it again.
 #[derive(Drop)]
 #[derive_where(Debug)]
 pub struct EncapsulationKey<P: ParameterSet, H: KemHash> {
@@ -48,8 +49,8 @@ impl<P: ParameterSet, H: KemHash> Model for EncapsulationKey<P, H> {
 }
 
 impl<P: ParameterSet, H: KemHash> EncapsulationKey<P, H> {
-    /// The key of these bytes. `InvalidKey` comes exactly where their length isn't EK_SIZE or a group of
-    /// 12 bits of the vector part is 3329 or more.
+    /// The key of these bytes (FIPS 203, section 7.2). `InvalidKey` comes exactly where their length isn't
+    /// EK_SIZE or a group of 12 bits of the vector part is 3329 or more, and `NoMemory` at want of memory.
     pub fn new(alloc: Global, bytes: &[u8]) -> Result<EncapsulationKey<P, H>, KeyError>
         ensures value { IfOk result (λ key. key ≡ bytes.now) }
         ensures accepted { IfOk result (λ _. IsEncapsulationKey P.set bytes.now) }
@@ -100,9 +101,11 @@ impl<P: ParameterSet, H: KemHash> EncapsulationKey<P, H> {
         })
     }
 
-    /// The bytes. It is refused at want of memory alone.
+    /// The bytes, which pass the checks of [`EncapsulationKey::new`]. It is refused at want of memory
+    /// alone.
     pub fn to_bytes(&self) -> Result<Vec<u8>, AllocError>
-        ensures { IfOk result (λ bytes. bytes.items ≡ self.now) }
+        ensures value { IfOk result (λ bytes. bytes.items ≡ self.now) }
+        ensures is { IfOk result (λ _. IsEncapsulationKey P.set self.now) }
     {
         let bytes = self.bytes.clone()?;
         Ok(bytes)
@@ -148,7 +151,8 @@ impl<P: ParameterSet, H: KemHash> EncapsulationKey<P, H> {
     /// ML-KEM.Encaps_internal (algorithm 17): the ciphertext, of CT_SIZE bytes, and the shared key that 32
     /// bytes give.
     ///
-    /// `XofExhausted` comes exactly where an entry of the matrix has fewer than 256 numbers below 3329.
+    /// `XofExhausted` comes exactly where an entry of the matrix has fewer than 256 numbers below 3329, and
+    /// `NoMemory` at want of memory.
     pub fn encapsulate_deterministic(&self, m: &B32) -> Result<(Ciphertext<P>, SharedKey), KemError>
         ensures value { Answers (λ made. (made.0, made.1)) result (encaps P.set H.family self.now m.now) }
         ensures size { IfOk result (λ made. length made.0 ≡ P.CT_SIZE) }
@@ -162,7 +166,8 @@ impl<P: ParameterSet, H: KemHash> EncapsulationKey<P, H> {
     /// ML-KEM.Encaps (algorithm 20) by 32 bytes of the random source, which are drawn by one call of
     /// `fill_bytes`, also before a refusal.
     ///
-    /// `XofExhausted` comes exactly where an entry of the matrix has fewer than 256 numbers below 3329.
+    /// `XofExhausted` comes exactly where an entry of the matrix has fewer than 256 numbers below 3329, and
+    /// `NoMemory` at want of memory.
     pub fn encapsulate_with_rng<R: Rng>(
         &self,
         rng: &mut R,
@@ -227,18 +232,6 @@ fn copied_matrix(
         }
         None => Ok(None),
     }
-}
-
-/// The two halves of 64 bytes.
-pub(crate) fn halves(bytes: &[u8; 64]) -> (B32, B32)
-    ensures first { result.0 ≡ take 32 bytes.now }
-    ensures second { result.1 ≡ drop 32 bytes.now }
-{
-    let mut first = [0; 32];
-    first.copy_from_slice(&bytes[..32]);
-    let mut second = [0; 32];
-    second.copy_from_slice(&bytes[32..]);
-    (first, second)
 }
 
 // A vector of transforms and a seed, in `size` bytes.

@@ -12,6 +12,7 @@ ghost use Rattle.ml_kem.specs.Keys.{piece, rho_part};
 ghost use Rattle.ml_kem.specs.Matrix.{column, noise_polynomial};
 ghost use Rattle.lattice_transform.specs.Transform.{inverse_transform, transform};
 
+use crate::bytes::copied;
 use crate::error::KemError;
 use crate::matrix::{column_dot, noise_transforms, sample_matrix};
 use crate::parameters::{B32, POLYNOMIAL_BYTES, ParameterSet};
@@ -62,16 +63,6 @@ pub(crate) fn encrypt_under<P: ParameterSet, H: KemHash>(
     let t_hat = NttVector::decode(alloc, NUMBER_BITS, P::K, &ek[..POLYNOMIAL_BYTES * P::K])?;
     let c = encrypt_with::<P, H>(alloc, a, &t_hat, m, r)?;
     Ok(c)
-}
-
-/// 32 bytes as an array.
-pub(crate) fn copied(bytes: &[u8]) -> B32
-    requires { length bytes.now ≡ 32 }
-    ensures { result ≡ bytes.now }
-{
-    let mut out = [0; 32];
-    out.copy_from_slice(bytes);
-    out
 }
 
 // The ciphertext under the transforms of A and t.

@@ -9,9 +9,10 @@ ghost use Rattle.ml_kem.specs.Expanded.{IsExpandedKey, expanded_form, hash_part,
 ghost use Rattle.ml_kem.specs.Keys.{IsEncapsulationKey};
 ghost use Rattle.ml_kem.specs.declared.error.KeyError.TheVariants.{InvalidKey};
 
+use crate::bytes::copied;
 use crate::decapsulation_key::DecapsulationKey;
 use crate::encapsulation_key::{EncapsulationKey, is_encapsulation_key};
-use crate::encryption::{NUMBER_BITS, copied};
+use crate::encryption::NUMBER_BITS;
 use crate::error::KeyError;
 use crate::parameters::{POLYNOMIAL_BYTES, ParameterSet};
 use ctutils::CtEqSlice;
@@ -23,8 +24,10 @@ use std::alloc::{AllocError, Global};
 const HASH_BYTES: usize = 32;
 
 impl<P: ParameterSet, H: KemHash> DecapsulationKey<P, H> {
-    /// The key of an expanded form. `InvalidKey` comes exactly where the length isn't DK_SIZE, the public
-    /// part is refused by [`EncapsulationKey::new`], or its hash isn't the one that the form carries.
+    /// The key of an expanded form. `InvalidKey` comes exactly where the length isn't DK_SIZE or the hash
+    /// of the public part isn't the one that the form carries (the two checks of FIPS 203, section 7.3), or
+    /// where the public part is refused by [`EncapsulationKey::new`] (that of section 7.2, which the
+    /// standard doesn't ask for here). `NoMemory` comes at want of memory.
     ///
     /// The secret part isn't checked: q is subtracted once from each group of 12 bits of 3329 or more.
     pub fn from_expanded(alloc: Global, enc: &[u8]) -> Result<DecapsulationKey<P, H>, KeyError>
@@ -84,7 +87,7 @@ fn secret_bytes(
     Ok(bytes)
 }
 
-// The checks of FIPS 203, section 7.3.
+// The checks of FIPS 203, section 7.3, and that of section 7.2 for the public part.
 fn is_expanded_key<P: ParameterSet, H: KemHash>(enc: &[u8]) -> bool
     ensures { IsTrue result ↔ IsExpandedKey P.set H.family enc.now }
 {

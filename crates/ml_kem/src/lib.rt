@@ -2,6 +2,7 @@
 //! family of hash functions.
 #![tactic(auto)]
 
+mod bytes;
 mod ciphertext;
 mod decapsulation_key;
 mod encapsulation_key;

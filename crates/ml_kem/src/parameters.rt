@@ -28,10 +28,10 @@ pub trait ParameterSet {
     /// How many polynomials a vector has.
     const K: usize;
 
-    /// The width of the noise of keys.
+    /// The width of the noise of keys, and of the vector y that encryption draws.
     const ETA1: usize;
 
-    /// The width of the noise that encryption adds.
+    /// The width of the noise that encryption adds: e1 and e2.
     const ETA2: usize;
 
     /// The bits that a ciphertext keeps of each coefficient of its vector u.

@@ -12,7 +12,7 @@ use Rattle.std.proofs.lemmas.List.FromFn.{get_or-map-range_with_len}
 use Rattle.module_lattice.specs.declared.multiply_ntt.TheConstants.{GAMMAS}
 use Rattle.module_lattice.specs.Ring.{times}
 use Rattle.module_lattice.specs.Pairs.{bit_rev7, gamma, pair_product, pair_products}
-use Rattle.module_lattice.specs.PairLaws.{All-pairs}
+use Rattle.module_lattice.specs.private.PairLaws.{All-pairs}
 
 -- the table is g, place by place
 GAMMAS_is : map gamma (range_with_len 0 128) ≡ GAMMAS

@@ -8,7 +8,7 @@ pub mod Vectors
 pub mod Bits
 -- numbers packed into bytes
 pub mod Groups
--- the law of the products in the transform domain: a proof, and no definitions
-pub mod PairLaws
 -- products that an independent model worked
 pub mod Worked
+-- proofs that an `impl` cites: no definitions
+pub mod private

@@ -42,7 +42,7 @@ impl MultiplyNtt for BaseField {
 
     ghost product_of = { pair_products };
 
-    ghost use Rattle.module_lattice.specs.PairLaws.{IsPolynomial-pair_products};
+    ghost use Rattle.module_lattice.specs.private.PairLaws.{IsPolynomial-pair_products};
 
     ghost product_is = { IsPolynomial-pair_products };
 

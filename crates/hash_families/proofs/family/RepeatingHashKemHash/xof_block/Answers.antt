@@ -1,7 +1,7 @@
 use Rattle.std.proofs.Common.{◌≡◌, ℕ, ◌+◌, ◌-◌, ◌*◌, List, take, drop, sym, ap, ◌∙◌, arith}
 use Rattle.std.specs.List.{flat_map, range_with_len}
 use Rattle.kem_hash.proofs.Joined.{part-joined}
-use Rattle.hash_families.specs.Repeating.{same-joined}
+use Rattle.hash_families.proofs.Pieces.{same-joined}
 use Rattle.hash_families.proofs.family.RepeatingHashKemHash.xof_block.Goals as goal
 
 pub returns : goal.returns

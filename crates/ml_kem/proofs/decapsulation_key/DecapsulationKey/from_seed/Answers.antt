@@ -23,8 +23,8 @@ use Rattle.ml_kem.proofs.decapsulation_key.DecapsulationKey.from_seed.Goals as g
 none-some : (rows : List (List (List ℕ))) → None ≡ Some rows → ⊥
 none-some rows same = cc
 
-pub returns-in_err-a : goal.returns-in_err-a
-returns-in_err-a g c =
+pub returns-in_err-a-clause-value : goal.returns-in_err-a-clause-value
+returns-in_err-a-clause-value g c =
     let set : Parameters = g.P.ParameterSet.set in
     let family : Family = g.H.KemHash.family in
     let k : set.k ≡ g.P.ParameterSet.K = ap (λ (s : Parameters). s.k) g.P.ParameterSet.constants in
@@ -76,8 +76,8 @@ invariant_of-result g c =
       each,
     )
 
-pub returns : goal.returns
-returns g c =
+pub returns-clause-value : goal.returns-clause-value
+returns-clause-value g c =
     let set : Parameters = g.P.ParameterSet.set in
     let family : Family = g.H.KemHash.family in
     let k : set.k ≡ g.P.ParameterSet.K = ap (λ (s : Parameters). s.k) g.P.ParameterSet.constants in

@@ -18,7 +18,7 @@ returns-clause-accepted g c =
     let k : set.k ≡ g.P.ParameterSet.K = ap (λ (s : Parameters). s.k) g.P.ParameterSet.constants in
     let is : c.extend_from_slice-3.new.self.items ≡ expanded_form family key = returns-clause-value g c in
     let each : All (IsPolynomial 3329) key.s_hat = subst (λ (v : List (List ℕ)). All (IsPolynomial 3329) v) c.s_hat.ensures.value c.in_ok-bytes.ensures.polynomials in
-    let public : IsEncapsulationKey set key.ek = subst (λ (b : List ℕ). IsEncapsulationKey set b) c.encapsulation_key-ek.ensures c.as_slice.ensures.is in
+    let public : IsEncapsulationKey set key.ek = subst (λ (b : List ℕ). IsEncapsulationKey set b) c.encapsulation_key-ek.ensures.value c.as_slice.ensures.is in
     let z : length c.z.result.now ≡ 32 = search rules in
     subst (λ (b : List ℕ). IsExpandedKey set family b) (sym is)
     (own-form set family key g.P.ParameterSet.is_set g.met.H.KemHash.is_lawful (c.s_hat.ensures.long ∙ sym k) each public (ap length (sym c.z.ensures) ∙ z))
@@ -31,7 +31,7 @@ returns-clause-equal g c =
     let k : set.k ≡ g.P.ParameterSet.K = ap (λ (s : Parameters). s.k) g.P.ParameterSet.constants in
     let is : c.extend_from_slice-3.new.self.items ≡ expanded_form family key = returns-clause-value g c in
     let each : All (IsPolynomial 3329) key.s_hat = subst (λ (v : List (List ℕ)). All (IsPolynomial 3329) v) c.s_hat.ensures.value c.in_ok-bytes.ensures.polynomials in
-    let public : IsEncapsulationKey set key.ek = subst (λ (b : List ℕ). IsEncapsulationKey set b) c.encapsulation_key-ek.ensures c.as_slice.ensures.is in
+    let public : IsEncapsulationKey set key.ek = subst (λ (b : List ℕ). IsEncapsulationKey set b) c.encapsulation_key-ek.ensures.value c.as_slice.ensures.is in
     let z : length c.z.result.now ≡ 32 = search rules in
     subst (λ (b : List ℕ). IsTrue (same_key (key_of_expanded set b) key)) (sym is)
     (own-equal set family key g.met.H.KemHash.is_lawful (c.s_hat.ensures.long ∙ sym k) each public (ap length (sym c.z.ensures) ∙ z))

@@ -1,4 +1,4 @@
--- The law of the products of pairs: a proof, and no definitions.
+-- Products of pairs are polynomials: a proof that an `impl` cites, and no definition.
 use Rattle.std.proofs.Common.{ℕ, ◌%◌, ◌+◌, ◌*◌, ◌<◌, List, [], ◌∷◌, subst, sym, arith}
 use Rattle.std.specs.Prelude.{All, slice_index}
 use Rattle.std.specs.List.{flat_map, range_with_len}

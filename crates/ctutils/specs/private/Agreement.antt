@@ -1,4 +1,4 @@
--- Equalities that agree: a proof, and no definitions.
+-- Equalities that agree: a proof that an `impl` cites, and no definition.
 use Rattle.std.specs.Prelude.{◌≡◌, Bool, List}
 use Rattle.std.specs.Cmp.Lexicographic.{pointwise}
 

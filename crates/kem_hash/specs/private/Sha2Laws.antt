@@ -1,4 +1,4 @@
--- The laws of the family that stands on SHA-2: proofs, and no definitions.
+-- The family that stands on SHA-2 is lawful: a proof that its `impl` cites, and no definition.
 use Rattle.std.proofs.Common.{◌≡◌, ℕ, zero, suc, ◌+◌, ◌*◌, ◌<◌, List, [], ◌∷◌, slice_index, All, ap₂, ◌∙◌, arith, length-append}
 use Rattle.std.specs.Int.{w32, w64, to_be_bytes, byte_at}
 use Rattle.std.specs.List.{flat_map, range_with_len}

@@ -1,4 +1,4 @@
--- The laws of `<` on numbers, for types that are ordered as numbers are.
+-- The laws of `<` on numbers, which the `impl`s of the orders cite: proofs, and no definitions.
 use Rattle.std.specs.Prelude.{ℕ, ◌≡◌, false, true, nat_lt}
 use Rattle.std.proofs.Common.{arith}
 use Rattle.std.proofs.lemmas.Bool.Decides.{nat_tests}

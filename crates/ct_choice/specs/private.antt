@@ -1,0 +1,2 @@
+-- the laws of `<`
+pub mod Order

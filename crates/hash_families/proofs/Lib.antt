@@ -1,0 +1,2 @@
+-- pieces that are all the same
+pub mod Pieces

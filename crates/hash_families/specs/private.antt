@@ -1,0 +1,2 @@
+-- the families whose XOF repeats three bytes are lawful
+pub mod RepeatingLaws

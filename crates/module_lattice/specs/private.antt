@@ -1,0 +1,2 @@
+-- products of pairs are polynomials
+pub mod PairLaws
