@@ -88,6 +88,7 @@ impl<P: ParameterSet, H: KemHash> DecapsulationKey<P, H> {
         ensures drawn { R.stream rng.new ≡ (fill_bytes 32 (fill_bytes 32 (R.stream rng.old)).1).1 }
         ensures value { let d = fill_bytes 32 (R.stream rng.old) in let seed = d.0 ++ (fill_bytes 32 d.1).0 in
             Answers (λ key. key) result (option_map (key_of_seed seed) (key_of P.set H.family seed)) }
+        ensures is { IfOk result (λ key. IsEncapsulationKey P.set key.ek) }
     {
         let mut d = [0; 32];
         rng.fill_bytes(&mut d);
