@@ -1,4 +1,5 @@
-// `Choice`: a truth value that is computed with by masks and word arithmetic.
+//! `Choice`: a truth value that is computed with by masks and word arithmetic.
+
 ghost use Rattle.std.specs.Prelude.{◌≡◌, ◌≢◌, ◌<◌, ◌≤◌, ◌%◌, ◌^◌, ◌↔◌, IsTrue, not, ◌&&◌, ◌||◌, if◌then◌else◌};
 ghost use Rattle.ct_choice.specs.Truth.{xor, bit_of, mask_of};
 

@@ -1,4 +1,5 @@
-// `CtGt`: which of two values is greater.
+//! `CtGt`: which of two values is greater.
+
 ghost use Rattle.std.specs.Prelude.{◌≡◌, Bool, false, true, nat_lt};
 ghost use Rattle.std.specs.Ordering.{ordering_index};
 ghost use Rattle.ct_choice.specs.private.Order.{nat_lt-irreflexive, nat_lt-transitive};

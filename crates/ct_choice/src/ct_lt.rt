@@ -1,4 +1,5 @@
-// `CtLt`: which of two values is less.
+//! `CtLt`: which of two values is less.
+
 ghost use Rattle.std.specs.Prelude.{◌≡◌, Bool, false, true, nat_lt};
 ghost use Rattle.std.specs.Ordering.{ordering_index};
 ghost use Rattle.ct_choice.specs.private.Order.{nat_lt-irreflexive, nat_lt-transitive};
@@ -104,7 +105,7 @@ impl CtLt for Ordering {
     }
 }
 
-// -1, 0 and 1 are moved to 0, 1 and 2.
+/// -1, 0 and 1 are moved to 0, 1 and 2.
 pub(crate) fn place(order: Ordering) -> u8
     ensures { result ≡ ordering_index order }
 {

@@ -1,4 +1,5 @@
-// `CtNeg`: negation where a choice is true.
+//! `CtNeg`: negation where a choice is true.
+
 ghost use Rattle.std.specs.Prelude.{◌≡◌, if◌then◌else◌};
 ghost use Rattle.std.specs.Int.{w8, w16, w32, w64, w128, int_wrapping_neg};
 ghost use Rattle.ct_choice.specs.Words.{negation};

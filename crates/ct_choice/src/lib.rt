@@ -1,4 +1,4 @@
-// Truth values without branches: choices, masks, and the word arithmetic under them.
+//! Truth values without branches: choices, masks, and the word arithmetic under them.
 #![tactic(auto)]
 
 mod choices;

@@ -1,7 +1,8 @@
-// Borrowing subtractions, carrying additions and counts of zeros, by word arithmetic.
-//
-// The formulas for borrow and carry bits are those of Hacker's Delight, second edition, sections
-// 2-12 and 2-13: a bit is computed in each place of a word, and that of the highest place is it.
+//! Borrowing subtractions, carrying additions and counts of zeros, by word arithmetic.
+//!
+//! The formulas for borrow and carry bits are those of Hacker's Delight, second edition, sections
+//! 2-12 and 2-13: a bit is computed in each place of a word, and that of the highest place is it.
+
 ghost use Rattle.std.specs.Prelude.{◌≡◌, ◌+◌, ◌-◌, ◌/◌, ◌%◌, ◌^◌, ◌<◌, ◌≤◌, ◌==◌, ◌↔◌, IsTrue, nat_lt, not};
 ghost use Rattle.std.specs.Int.{w32, w64, leading_zeros, trailing_zeros};
 ghost use Rattle.ct_choice.specs.Truth.{bit_of, mask_of};
@@ -135,26 +136,28 @@ pub fn overflowing_add_u128(lhs: u128, rhs: u128) -> (u128, Choice)
     (sum, Choice::from_u128_lsb(carry))
 }
 
-// 1 where `x` is below `y`, else 0.
+/// 1 where `x` is below `y`, else 0.
 pub(crate) fn below_u64(x: u64, y: u64) -> u64
     ensures { result ≡ bit_of (nat_lt x y) }
 {
     borrow_bit!(x, y, x.wrapping_sub(y), u64::BITS)
 }
 
+/// 1 where `x` is below `y`, else 0.
 pub(crate) fn below_u128(x: u128, y: u128) -> u128
     ensures { result ≡ bit_of (nat_lt x y) }
 {
     borrow_bit!(x, y, x.wrapping_sub(y), u128::BITS)
 }
 
-// 0 for 0, else 1: one of `value` and `-value` has its highest bit set.
+/// 0 for 0, else 1: one of `value` and `-value` has its highest bit set.
 pub(crate) fn nonzero_u64(value: u64) -> u64
     ensures { result ≡ bit_of (not (value == 0)) }
 {
     (value | value.wrapping_neg()) >> (u64::BITS - 1)
 }
 
+/// 0 for 0, else 1, as for 64 bits.
 pub(crate) fn nonzero_u128(value: u128) -> u128
     ensures { result ≡ bit_of (not (value == 0)) }
 {

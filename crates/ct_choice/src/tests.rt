@@ -1,4 +1,5 @@
-// Tables over the edges of each width: 0, 1, the highest bit and the greatest word.
+//! Tables over the edges of each width: 0, 1, the highest bit and the greatest word.
+
 use crate::primitives::{
     borrowing_sub_mask_u32, borrowing_sub_mask_u64, borrowing_sub_u32, borrowing_sub_u64,
     leading_zeros_u32, leading_zeros_u64, overflowing_add_u64, overflowing_add_u128,

@@ -1,4 +1,5 @@
-// The calls on boxes: what the traits say of the value in a box.
+//! The calls on boxes: what the traits say of the value in a box.
+
 ghost use Rattle.std.specs.Prelude.{◌≡◌, if◌then◌else◌, IfOk};
 
 use crate::ct_assign::CtAssign;

@@ -1,4 +1,5 @@
-// `CtAssign`: taking another value where a choice is true.
+//! `CtAssign`: taking another value where a choice is true.
+
 ghost use Rattle.std.specs.Prelude.{◌≡◌, if◌then◌else◌, length};
 
 use crate::ct_select::CtSelect;

@@ -1,4 +1,5 @@
-// `CtEq`: whether two values are equal.
+//! `CtEq`: whether two values are equal.
+
 ghost use Rattle.std.specs.Prelude.{◌≡◌, Bool, not, nat_eq};
 ghost use Rattle.std.specs.Bool.{beq};
 ghost use Rattle.std.specs.Ordering.{int_eq, ordering_index};

@@ -1,4 +1,5 @@
-// `CtOption`: an option that always holds a value, which a none hides.
+//! `CtOption`: an option that always holds a value, which a none hides.
+
 ghost use Rattle.std.specs.Prelude.{◌≡◌, IsTrue, true, false, not, ◌&&◌, ◌||◌, if◌then◌else◌, MatchBool, ⊤};
 ghost use Rattle.std.specs.Fn.{FnOnceTakesAt, FnOnceReturnsAt};
 ghost use Rattle.ct_choice.specs.Truth.{xor};
@@ -439,6 +440,7 @@ impl<T> CtOption<&mut T> {
     }
 }
 
+// The clone of a value whose type's clones don't fail.
 fn cloned_value<T: Clone>(value: &T) -> T
     requires succeeds { T.is_infallible value.now }
     requires equal { (clone : T) → T.is_clone value.now clone → clone ≡ value.now }
@@ -451,6 +453,7 @@ fn cloned_value<T: Clone>(value: &T) -> T
 }
 
 impl<T: CtSelect> CtOption<T> {
+    // The value of a some, and else that of the other.
     fn value_or_that_of(&self, optb: &CtOption<T>) -> T
         ensures { result ≡ (if self.now.is_some then self.now.value else optb.now.value) }
     {

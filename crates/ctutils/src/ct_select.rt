@@ -1,4 +1,5 @@
-// `CtSelect`: one of two values, by a choice.
+//! `CtSelect`: one of two values, by a choice.
+
 ghost use Rattle.std.specs.Prelude.{◌≡◌, if◌then◌else◌};
 ghost use Rattle.std.specs.Ordering.{ordering_index};
 

@@ -1,4 +1,5 @@
-// What holds of the equalities of this crate: `ct_eq` and `==` agree.
+//! What holds of the equalities of this crate: `ct_eq` and `==` agree.
+
 ghost use Rattle.std.specs.Prelude.{◌≡◌};
 
 use crate::ct_eq::CtEqAgrees;

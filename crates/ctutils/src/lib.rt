@@ -1,4 +1,4 @@
-// Assignment, equality, selection, search and options that take no branch on a choice.
+//! Assignment, equality, selection, search and options that take no branch on a choice.
 #![tactic(auto)]
 
 mod boxes;

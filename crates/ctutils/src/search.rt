@@ -1,4 +1,5 @@
-// `ct_find` and `ct_lookup`: an item of a slice, by a predicate or by its place.
+//! `ct_find` and `ct_lookup`: an item of a slice, by a predicate or by its place.
+
 ghost use Rattle.std.specs.Prelude.{◌≡◌, ℕ, Bool, find, slice_get};
 ghost use Rattle.std.specs.Bool.{OnFalse};
 ghost use Rattle.ctutils.specs.Options.{into_option};

@@ -1,4 +1,5 @@
-// Each call at concrete types, over the edges of each width, and the worked searches and options.
+//! Each call at concrete types, over the edges of each width, and the worked searches and options.
+
 ghost use Rattle.std.specs.Prelude.{◌≡◌};
 
 use crate::laws::ct_eq_agrees;

@@ -1,4 +1,5 @@
-// The calls on vectors: what the traits say of the elements of a vector.
+//! The calls on vectors: what the traits say of the elements of a vector.
+
 ghost use Rattle.std.specs.Prelude.{◌≡◌, if◌then◌else◌, IfOk, vec_len, length};
 ghost use Rattle.std.specs.Cmp.Lexicographic.{pointwise};
 

@@ -3,7 +3,7 @@
 use crate::{RepeatingHash, SmallAndFifty};
 use kem_hash::{KemHash, Sha2Hash};
 
-/// A family to ask.
+// A family to ask.
 type Family = RepeatingHash<SmallAndFifty>;
 
 #[test]

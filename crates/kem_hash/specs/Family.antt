@@ -16,7 +16,7 @@ pub record AreBytes (n : ℕ) (bytes : List ℕ) : Type 0 where
   pub size : length bytes ≡ n
   pub each : All (λ x. x < 256) bytes
 
--- the length of the output of XOF: 16 blocks of 168 bytes
+-- the length of the output of XOF: 16 blocks of 168 bytes, where FIPS 203 reads on without an end
 abbrev pub xof_size : ℕ
 xof_size = 2688
 

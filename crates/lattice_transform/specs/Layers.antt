@@ -39,6 +39,7 @@ unfoldable pub inverse_butterflies : ℕ → ℕ → List ℕ → List ℕ
 inverse_butterflies half zero f = f
 inverse_butterflies half (suc n) f = inverse_butterfly (first_place half n) (first_place half n + half) (zeta (2 * (128 / half) - 1 - n / half)) (inverse_butterflies half n f)
 
+-- one layer of the way back: 128 butterflies
 abbrev pub inverse_layer : ℕ → List ℕ → List ℕ
 inverse_layer half f = inverse_butterflies half 128 f
 

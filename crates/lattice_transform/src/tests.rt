@@ -1,4 +1,4 @@
-// Each law is called once, and each transform is run on X.
+//! Each law is called once, and each transform is run on X.
 
 ghost use Rattle.std.specs.Prelude.{◌≡◌, ◌<◌, [], ◌∷◌};
 ghost use Rattle.std.specs.List.{flat_map, range_with_len};

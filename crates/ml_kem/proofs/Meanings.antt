@@ -12,7 +12,7 @@ use Rattle.ml_kem.specs.Encapsulation.{chosen_key, decaps, encaps, key_and_coins
 use Rattle.ml_kem.specs.Encryption.{compressed, decompressed, decrypt, encrypt, encrypted_with, rounded_u, rounded_v}
 use Rattle.ml_kem.specs.Expanded.{SecretKey, key_of_expanded, public_part, secret_part, z_part}
 use Rattle.ml_kem.specs.Keys.{decoded_vector, piece, rho_part, ring_vector, vector_part}
-use Rattle.ml_kem.specs.Kept.{IsMatrix}
+use Rattle.ml_kem.specs.private.Kept.{IsMatrix}
 use Rattle.ml_kem.specs.Matrix.{column, matrix, noise, noise_polynomial, transposed}
 use Rattle.ml_kem.specs.Parameters.{Parameters}
 use Rattle.lattice_transform.specs.Transform.{inverse_transform, transform}

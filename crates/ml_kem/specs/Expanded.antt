@@ -1,12 +1,10 @@
 -- What a decapsulation key holds, and its expanded form (FIPS 203, sections 6.1 and 7.3).
-use Rattle.std.specs.Prelude.{◌≡◌, ◌≢◌, ◌&&◌, Bool, ℕ, ◌+◌, ◌^◌, ◌<◌, All, List, ◌++◌, Option, None, Some, IfSome, length, take, drop, map, nat_eq}
+use Rattle.std.specs.Prelude.{◌≡◌, ◌&&◌, Bool, ℕ, ◌+◌, List, ◌++◌, Option, None, Some, length, take, drop, map, nat_eq}
 use Rattle.std.specs.Cmp.Lexicographic.{pointwise}
 use Rattle.std.specs.List.{flat_map}
-use Rattle.std.specs.Option.{option_map}
 use Rattle.kem_hash.specs.Family.{Family}
 use Rattle.module_lattice.specs.Groups.{groups}
-use Rattle.ml_kem.specs.Keys.{IsEncapsulationKey, Key, decoded_vector, key_of, rho_part, ring_vector, vector_size}
-use Rattle.ml_kem.specs.Matrix.{matrix}
+use Rattle.ml_kem.specs.Keys.{IsEncapsulationKey, Key, decoded_vector, ring_vector, vector_size}
 use Rattle.ml_kem.specs.Parameters.{Parameters}
 use Rattle.lattice_transform.specs.Transform.{transform}
 
@@ -23,29 +21,23 @@ pub record SecretKey : Type 0 where
 abbrev pub key_of_seed : List ℕ → Key → SecretKey
 key_of_seed seed key = record { seed = Some seed; s = key.s; s_hat = map transform key.s; ek = key.ek; z = key.z }
 
--- what every key keeps: its vectors have k items, a key from a seed is the one that the seed gives, and
--- its samples are there
-pub record IsSecretKey (set : Parameters) (family : Family) (key : SecretKey) : Type 0 where
-  pub s_long : length key.s ≡ set.k
-  pub s_hat_long : length key.s_hat ≡ set.k
-  pub s_hat_narrow : All (λ f. All (λ x. x < 2 ^ 12) f) key.s_hat
-  pub seeded : IfSome key.seed (λ seed. option_map (key_of_seed seed) (key_of set family seed) ≡ Some key)
-  pub sampled : key.seed ≢ None → matrix family set.k (rho_part set key.ek) ≢ None
-
 -- the expanded form: s, ek, H(ek) and z (algorithm 16, line 3)
 abbrev pub expanded_form : Family → SecretKey → List ℕ
 expanded_form family key = flat_map (groups 12) key.s_hat ++ key.ek ++ family.h_of key.ek ++ key.z
 
--- the parts of an expanded form
+-- the parts of an expanded form (algorithm 16, line 3). The first is the vector of the transforms of s
 abbrev pub secret_part : Parameters → List ℕ → List ℕ
 secret_part set bytes = take (vector_size set) bytes
 
+-- behind it the encapsulation key
 abbrev pub public_part : Parameters → List ℕ → List ℕ
 public_part set bytes = take set.ek_size (drop (vector_size set) bytes)
 
+-- then the hash of that key
 abbrev pub hash_part : Parameters → List ℕ → List ℕ
 hash_part set bytes = take 32 (drop (vector_size set + set.ek_size) bytes)
 
+-- and the secret z of rejections
 abbrev pub z_part : Parameters → List ℕ → List ℕ
 z_part set bytes = drop (vector_size set + set.ek_size + 32) bytes
 

@@ -10,7 +10,8 @@ use Rattle.ml_kem.specs.Matrix.{matrix, noise}
 use Rattle.ml_kem.specs.Parameters.{Parameters, q}
 use Rattle.lattice_transform.specs.Transform.{inverse_transform, transform}
 
--- what key generation makes of a seed
+-- what key generation makes of a seed: the seed rho of the matrix, the matrix A, the vectors s, e and t,
+-- the encapsulation key and the secret z of rejections (algorithms 13 and 16)
 pub record Key : Type 0 where
   pub rho : List ℕ
   pub a : List (List (List ℕ))
@@ -24,7 +25,8 @@ pub record Key : Type 0 where
 unfoldable pub encoded_vector : List (List ℕ) → List ℕ
 encoded_vector v = flat_map (groups 12) (map transform v)
 
--- K-PKE.KeyGen (algorithm 13) for the two halves of G and the matrix A of rho: t = A·s + e
+-- K-PKE.KeyGen (algorithm 13) for the two halves of G and the matrix A of rho: noise 0 to k - 1 is s,
+-- noise k to 2·k - 1 is e, and t = A·s + e. The encapsulation key is t, encoded, and rho.
 unfoldable pub key_with : Parameters → Family → List ℕ → List ℕ → List ℕ → List (List (List ℕ)) → Key
 key_with set family rho sigma z a =
     let s = noise family set.eta1 sigma 0 set.k in
@@ -43,18 +45,19 @@ key_of set family seed =
     let expanded = expanded_seed set family seed in
     option_map (key_with set family (take 32 expanded) (drop 32 expanded) (drop 32 seed)) (matrix family set.k (take 32 expanded))
 
--- the bytes of k polynomials of 256 numbers of 12 bits
+-- the bytes of k polynomials of 256 numbers of 12 bits, which are 384 for each
 abbrev pub vector_size : Parameters → ℕ
 vector_size set = 384 * set.k
 
--- the vector part and the seed rho of an encapsulation key (algorithm 14, lines 2 and 3)
+-- the vector part of an encapsulation key (algorithm 14, line 2)
 abbrev pub vector_part : Parameters → List ℕ → List ℕ
 vector_part set bytes = take (vector_size set) bytes
 
+-- the seed rho behind it (algorithm 14, line 3)
 abbrev pub rho_part : Parameters → List ℕ → List ℕ
 rho_part set ek = drop (vector_size set) ek
 
--- the transforms that a vector part holds: ByteDecode_12
+-- the transforms that a vector part holds: ByteDecode_12 of each 384 bytes (algorithm 14, line 2)
 unfoldable pub decoded_vector : Parameters → List ℕ → List (List ℕ)
 decoded_vector set bytes = decoded_each q 12 set.k bytes
 

@@ -8,8 +8,6 @@ pub mod Samples
 pub mod Matrix
 -- key generation, and the parts of keys
 pub mod Keys
--- what a key keeps beside its bytes
-pub mod Kept
 -- encryption and decryption
 pub mod Encryption
 -- how a call answers a meaning that is a value or none
@@ -18,3 +16,5 @@ pub mod Answers
 pub mod Encapsulation
 -- what a decapsulation key holds, and its expanded form
 pub mod Expanded
+-- invariants of types: no definitions of what calls answer
+pub mod private

@@ -18,12 +18,15 @@ pub record Parameters : Type 0 where
   pub ct_size : ℕ
   pub dk_size : ℕ
 
+-- ML-KEM-512
 abbrev pub ml_kem_512 : Parameters
 ml_kem_512 = record { k = 2; eta1 = 3; eta2 = 2; du = 10; dv = 4; ek_size = 800; ct_size = 768; dk_size = 1632 }
 
+-- ML-KEM-768
 abbrev pub ml_kem_768 : Parameters
 ml_kem_768 = record { k = 3; eta1 = 2; eta2 = 2; du = 10; dv = 4; ek_size = 1184; ct_size = 1088; dk_size = 2400 }
 
+-- ML-KEM-1024
 abbrev pub ml_kem_1024 : Parameters
 ml_kem_1024 = record { k = 4; eta1 = 2; eta2 = 2; du = 11; dv = 5; ek_size = 1568; ct_size = 1568; dk_size = 3168 }
 

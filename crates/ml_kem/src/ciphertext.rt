@@ -60,7 +60,7 @@ impl<P: ParameterSet> Ciphertext<P> {
         })
     }
 
-    // The ciphertext of CT_SIZE bytes.
+    /// The ciphertext of CT_SIZE bytes.
     pub(crate) fn from_vec(bytes: Vec<u8>) -> Ciphertext<P>
         requires { length bytes.items ≡ P.CT_SIZE }
         ensures { result ≡ bytes.items }

@@ -41,7 +41,8 @@ impl<P: ParameterSet, H: KemHash> Model for DecapsulationKey<P, H> {
     ghost use Rattle.std.specs.Prelude.{All, map};
     ghost use Rattle.module_lattice.specs.Ring.{IsPolynomial};
     ghost use Rattle.lattice_transform.specs.Transform.{inverse_transform};
-    ghost use Rattle.ml_kem.specs.Expanded.{IsSecretKey, SecretKey};
+    ghost use Rattle.ml_kem.specs.Expanded.{SecretKey};
+    ghost use Rattle.ml_kem.specs.private.Kept.{IsSecretKey};
 
     ghost Value = { SecretKey };
 

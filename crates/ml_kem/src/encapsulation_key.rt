@@ -9,7 +9,7 @@ ghost use Rattle.ml_kem.specs.Answers.{Answers};
 ghost use Rattle.ml_kem.specs.Encapsulation.{encaps};
 ghost use Rattle.ml_kem.specs.Encryption.{encrypt};
 ghost use Rattle.ml_kem.specs.Keys.{IsEncapsulationKey, IsReduced};
-ghost use Rattle.ml_kem.specs.Kept.{IsMatrix};
+ghost use Rattle.ml_kem.specs.private.Kept.{IsMatrix};
 ghost use Rattle.ml_kem.specs.declared.error.KeyError.TheVariants.{InvalidKey, NoMemory};
 
 use crate::bytes::halves;
@@ -38,7 +38,7 @@ pub struct EncapsulationKey<P: ParameterSet, H: KemHash> {
 impl<P: ParameterSet, H: KemHash> Model for EncapsulationKey<P, H> {
     ghost use Rattle.std.specs.Prelude.{ℕ, List, IfSome};
     ghost use Rattle.ml_kem.specs.Keys.{IsEncapsulationKey, rho_part};
-    ghost use Rattle.ml_kem.specs.Kept.{IsMatrix};
+    ghost use Rattle.ml_kem.specs.private.Kept.{IsMatrix};
 
     ghost Value = { List ℕ };
 
@@ -250,6 +250,7 @@ fn key_bytes(
     Ok(bytes)
 }
 
+// The same into bytes that are there.
 fn write_key(transforms: &NttVector<BaseField>, rho: &B32, out: &mut [u8])
     requires narrow { All (λ f. All (λ x. x < 2 ^ 12) f) transforms.now }
     requires room { length out.old ≡ 384 * length transforms.now + 32 }

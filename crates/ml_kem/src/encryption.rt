@@ -7,7 +7,7 @@ ghost use Rattle.module_lattice.specs.Ring.{IsPolynomial, sum};
 ghost use Rattle.module_lattice.specs.Vectors.{dot_product, RowsHaveLength};
 ghost use Rattle.ml_kem.specs.Answers.{Answers};
 ghost use Rattle.ml_kem.specs.Encryption.{compressed, decompressed, decrypt, encrypt, encrypted_with};
-ghost use Rattle.ml_kem.specs.Kept.{IsMatrix};
+ghost use Rattle.ml_kem.specs.private.Kept.{IsMatrix};
 ghost use Rattle.ml_kem.specs.Keys.{piece, rho_part};
 ghost use Rattle.ml_kem.specs.Matrix.{column, noise_polynomial};
 ghost use Rattle.lattice_transform.specs.Transform.{inverse_transform, transform};
@@ -26,7 +26,7 @@ use std::alloc::{AllocError, Global};
 // The bytes that one bit of each coefficient takes.
 const BYTES_PER_BIT: usize = 32;
 
-// The bits of a number below q.
+/// The bits of a number below q.
 pub(crate) const NUMBER_BITS: usize = 12;
 
 /// The ciphertext of a message under an encapsulation key, by the coins `r`: CT_SIZE bytes. The matrix is
@@ -144,6 +144,7 @@ fn encrypted_v<P: ParameterSet, H: KemHash>(
     &noisy + &read_decompressed(1, m)
 }
 
+// The same into bytes that are there.
 fn write_ciphertext<P: ParameterSet>(
     u: &Vector<BaseField>,
     v: &Polynomial<BaseField>,

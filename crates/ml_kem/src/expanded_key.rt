@@ -119,7 +119,7 @@ fn read_expanded<P: ParameterSet, H: KemHash>(
     Ok(DecapsulationKey::from_transforms(s_hat, ek, z))
 }
 
-// The parts of an expanded form.
+// The parts of an expanded form. First the transforms of s.
 fn secret_bytes_of<P: ParameterSet>(enc: &[u8]) -> &[u8]
     requires { length enc.now ≡ P.DK_SIZE }
     ensures value { result.now ≡ secret_part P.set enc.now }
@@ -128,6 +128,7 @@ fn secret_bytes_of<P: ParameterSet>(enc: &[u8]) -> &[u8]
     &enc[..POLYNOMIAL_BYTES * P::K]
 }
 
+// The encapsulation key.
 fn public_bytes<P: ParameterSet>(enc: &[u8]) -> &[u8]
     requires { length enc.now ≡ P.DK_SIZE }
     ensures { result.now ≡ public_part P.set enc.now }
@@ -136,6 +137,7 @@ fn public_bytes<P: ParameterSet>(enc: &[u8]) -> &[u8]
     &enc[start..start + P::EK_SIZE]
 }
 
+// Its hash.
 fn hash_bytes<P: ParameterSet>(enc: &[u8]) -> &[u8]
     requires { length enc.now ≡ P.DK_SIZE }
     ensures { result.now ≡ hash_part P.set enc.now }
@@ -144,6 +146,7 @@ fn hash_bytes<P: ParameterSet>(enc: &[u8]) -> &[u8]
     &enc[start..start + HASH_BYTES]
 }
 
+// The secret of rejections.
 fn z_bytes<P: ParameterSet>(enc: &[u8]) -> &[u8]
     requires { length enc.now ≡ P.DK_SIZE }
     ensures value { result.now ≡ z_part P.set enc.now }

@@ -5,7 +5,7 @@ ghost use Rattle.module_lattice.specs.Pairs.{pair_products};
 ghost use Rattle.module_lattice.specs.Ring.{IsPolynomial};
 ghost use Rattle.module_lattice.specs.Vectors.{dot_product};
 ghost use Rattle.ml_kem.specs.Answers.{Answers};
-ghost use Rattle.ml_kem.specs.Kept.{IsMatrix};
+ghost use Rattle.ml_kem.specs.private.Kept.{IsMatrix};
 ghost use Rattle.ml_kem.specs.Matrix.{column, matrix, noise, row};
 ghost use Rattle.lattice_transform.specs.Transform.{inverse_transform, transform};
 

@@ -13,13 +13,13 @@ pub type Seed = [u8; 64];
 /// What an encapsulation gives both sides.
 pub type SharedKey = [u8; 32];
 
-// The modulus of the coefficients.
+/// The modulus of the coefficients.
 pub(crate) const Q: u32 = BaseField::Q;
 
-// The coefficients of a polynomial.
+/// The coefficients of a polynomial.
 pub(crate) const DEGREE: usize = 256;
 
-// The bytes of a polynomial of numbers below q.
+/// The bytes of a polynomial of numbers below q.
 pub(crate) const POLYNOMIAL_BYTES: usize = 384;
 
 /// A parameter set. Contracts see it as `set`, which is one of the three sets of FIPS 203, and the

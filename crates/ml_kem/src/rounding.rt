@@ -71,6 +71,7 @@ pub(crate) fn read_decompressed(d: usize, bytes: &[u8]) -> Polynomial<BaseField>
     Polynomial::new(values)
 }
 
+// Compress of each number.
 #[inline(always)]
 fn compress_each(d: usize, values: &mut [u32])
     requires positive { 1 ≤ d }
@@ -83,6 +84,7 @@ fn compress_each(d: usize, values: &mut [u32])
     }
 }
 
+// Decompress of each number.
 #[inline(always)]
 fn decompress_each(d: usize, values: &mut [u32])
     requires positive { 1 ≤ d }

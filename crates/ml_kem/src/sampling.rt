@@ -81,6 +81,7 @@ impl Model for Sampler {
 }
 
 impl Sampler {
+    // No numbers.
     fn new() -> Sampler
         ensures { result ≡ [] }
     {
@@ -90,6 +91,7 @@ impl Sampler {
         }
     }
 
+    // Whether 256 numbers were taken.
     fn is_full(&self) -> bool
         ensures { result ≡ (length self.now == 256) }
     {
@@ -128,6 +130,7 @@ impl Sampler {
         }
     }
 
+    // The polynomial of 256 numbers.
     fn into_polynomial(self) -> NttPolynomial<BaseField>
         requires { length self ≡ 256 }
         ensures { result ≡ self }
@@ -171,6 +174,7 @@ fn bit(byte: u8, k: u32) -> u32
     ((byte >> k) & 1) as u32
 }
 
+// For either eta, coefficient by coefficient.
 fn fill_cbd(eta: usize, bytes: &[u8], out: &mut [u32])
     requires eta { (eta ≡ 2) ⊎ (eta ≡ 3) }
     requires bytes { length bytes.now ≡ 64 * eta }
@@ -182,6 +186,7 @@ fn fill_cbd(eta: usize, bytes: &[u8], out: &mut [u32])
     }
 }
 
+// Coefficient `i`: the sum of `eta` bits minus that of the next `eta`.
 fn cbd_coefficient(eta: usize, bytes: &[u8], i: usize) -> u32
     requires eta { (eta ≡ 2) ⊎ (eta ≡ 3) }
     requires bytes { length bytes.now ≡ 64 * eta }

@@ -68,6 +68,7 @@ pub fn byte_decode<F: Field>(d: usize, bytes: &[u8], out: &mut [u32])
     }
 }
 
+// The 256 numbers of `d` bits that the bytes hold, unreduced.
 #[inline(always)]
 fn unpack(d: usize, bytes: &[u8], out: &mut [u32])
     requires positive { 1 ≤ d }
@@ -90,6 +91,7 @@ fn unpack(d: usize, bytes: &[u8], out: &mut [u32])
     }
 }
 
+// Subtracts Q once from each number of Q or more.
 fn reduce_once<F: Field>(values: &mut [u32])
     ensures { values.new ≡ map (reduced_once F.Q) values.old }
 {
@@ -116,6 +118,7 @@ fn values_in_unit(d: usize) -> usize
     }
 }
 
+// Packs the numbers that fill lcm(d, 8) bits.
 #[inline(always)]
 fn pack_unit(d: usize, values: &[u32], out: &mut [u8])
     requires whole { d * length values.now ≡ 8 * length out.old }
@@ -128,6 +131,7 @@ fn pack_unit(d: usize, values: &[u32], out: &mut [u8])
     out.copy_from_slice(&word[..len]);
 }
 
+// Takes the numbers that lcm(d, 8) bits hold out of them.
 #[inline(always)]
 fn unpack_unit(d: usize, bytes: &[u8], out: &mut [u32])
     requires positive { 1 ≤ d }

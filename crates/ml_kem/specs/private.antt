@@ -1,0 +1,2 @@
+-- what keys keep
+pub mod Kept
