@@ -1,145 +1,42 @@
-//! Rounding and transforms: worked values, and cases of an independent model that was written
-//! from the standard in another language.
+//! Each law is called once, and each call that keys don't run.
 
 mod decapsulation;
 mod encapsulation;
-mod expanded;
-mod sampling;
 mod zero_draw;
 
 ghost use Rattle.std.specs.Prelude.{◌<◌};
 
-use crate::laws::{compresses_what_was_decompressed, worked_transforms};
-use crate::{compress, decompress, ntt, ntt_inverse};
-use module_lattice::{BaseField, Elem, Polynomial};
+use crate::{compress, decompress, laws, sample_ntt, sample_poly_cbd};
+use hash_families::{Ones, RepeatingHash, SmallAndFifty};
 
 #[test]
-fn rounding(rt: HostRuntime) {
-    compresses_what_was_decompressed();
-    let compressed = [
-        (
-            1,
-            [0, 832, 833, 1664, 1665, 2496, 2497, 3328],
-            [0, 0, 1, 1, 1, 1, 0, 0],
-        ),
-        (
-            4,
-            [0, 832, 833, 1664, 1665, 2496, 2497, 3328],
-            [0, 4, 4, 8, 8, 12, 12, 0],
-        ),
-        (
-            5,
-            [0, 832, 833, 1664, 1665, 2496, 2497, 3328],
-            [0, 8, 8, 16, 16, 24, 24, 0],
-        ),
-        (
-            10,
-            [0, 832, 833, 1664, 1665, 2496, 2497, 3328],
-            [0, 256, 256, 512, 512, 768, 768, 0],
-        ),
-        (
-            11,
-            [0, 832, 833, 1664, 1665, 2496, 2497, 3328],
-            [0, 512, 512, 1024, 1024, 1536, 1536, 2047],
-        ),
-    ];
-    for (d, numbers, expected) in compressed {
-        for i in 0..8 {
-            assert_eq!(rt; compress(d, numbers[i]), expected[i], "d {d}, number {i}");
-        }
-    }
-    let decompressed = [
-        (1, [0, 1, 0, 1], [0, 1665, 0, 1665]),
-        (4, [0, 1, 8, 15], [0, 208, 1665, 3121]),
-        (5, [0, 1, 16, 31], [0, 104, 1665, 3225]),
-        (10, [0, 1, 512, 1023], [0, 3, 1665, 3326]),
-        (11, [0, 1, 1024, 2047], [0, 2, 1665, 3327]),
-    ];
-    for (d, numbers, expected) in decompressed {
-        for i in 0..4 {
-            assert_eq!(rt; decompress(d, numbers[i]), expected[i], "d {d}, number {i}");
-        }
-    }
-}
-
-// X^k.
-fn power_of_x(k: usize) -> Polynomial<BaseField>
-    requires { k < 256 }
-{
-    let mut values = [0; 256];
-    values[k] = 1;
-    Polynomial::new(values)
-}
-
-// The polynomial with these coefficients modulo q.
-fn polynomial(coefficients: &[u32; 256]) -> Polynomial<BaseField> {
-    let mut f = Polynomial::default();
-    for i in 0..256 {
-        f = &f + &(Elem::new(coefficients[i] % 3329) * &power_of_x(i));
-    }
-    f
+fn laws_are_called(_rt: HostRuntime) {
+    laws::parameter_sets();
+    laws::worked_transforms();
+    laws::worked_roundings();
+    laws::compresses_what_was_decompressed();
+    laws::worked_samples();
+    laws::reads_its_own_expanded_form();
+    laws::lengths();
 }
 
 #[test]
-fn transforms_of_powers_of_x(rt: HostRuntime) {
-    worked_transforms();
-    let of_x = ntt(&power_of_x(1)).into_array();
-    for i in 0..128 {
-        assert_eq!(rt; [of_x[2 * i], of_x[2 * i + 1]], [0, 1], "pair {i}");
-    }
-    let of_square = ntt(&power_of_x(2)).into_array();
-    assert_eq!(rt;
-        [of_square[0], of_square[1], of_square[2], of_square[3]],
-        [17, 0, 3312, 0]
-    );
-    let product = &ntt(&power_of_x(255)) * &ntt(&power_of_x(1));
-    let back = ntt_inverse(&product).into_array();
-    assert_eq!(rt; back[0], 3328);
-    let zeros = [0; 255];
-    assert_eq!(rt; &back[1..], zeros.as_slice());
+fn roundings(rt: HostRuntime) {
+    assert!(rt; compress(10, 1665) == 512 && decompress(10, 512) == 1665);
 }
 
 #[test]
-fn transform_of_a_polynomial(rt: HostRuntime) {
-    let f = [
-        3024, 335, 2266, 365, 2448, 2115, 1687, 2014, 1352, 178, 1136, 1111, 1526, 2863, 2338,
-        1584, 2142, 3097, 2208, 2043, 2669, 443, 2410, 288, 535, 3230, 3231, 1477, 564, 2942, 104,
-        3035, 1784, 1711, 3054, 1418, 1874, 1340, 560, 3039, 3106, 2151, 964, 1292, 900, 269, 2122,
-        2349, 2781, 2020, 2182, 866, 3328, 860, 2774, 2952, 3201, 1429, 2046, 1135, 1259, 916,
-        2988, 514, 4, 2684, 1255, 824, 985, 999, 3305, 2697, 2948, 941, 832, 1507, 1961, 940, 2581,
-        2933, 1617, 2816, 599, 582, 713, 627, 1360, 1070, 3017, 48, 417, 976, 59, 1253, 713, 1646,
-        2197, 2356, 1029, 1635, 1573, 521, 879, 2858, 1101, 2705, 788, 2589, 2423, 2126, 1704,
-        2833, 1962, 2011, 3083, 1677, 3206, 2555, 1699, 2018, 2703, 555, 250, 1857, 1286, 2664,
-        1596, 448, 2072, 1486, 1291, 2743, 674, 2538, 1558, 2150, 2496, 834, 691, 150, 2893, 3323,
-        968, 1817, 2095, 312, 613, 2712, 3126, 2316, 1947, 138, 3303, 497, 1653, 3045, 1820, 1398,
-        2347, 1710, 1449, 2870, 83, 2895, 912, 3267, 2675, 215, 875, 2197, 2146, 3315, 2371, 2922,
-        1719, 451, 2931, 2893, 208, 280, 3125, 2696, 2099, 2903, 333, 1377, 4, 2504, 248, 1286,
-        1184, 378, 877, 2720, 2354, 886, 1103, 2709, 2793, 1100, 2242, 1942, 100, 3116, 3050, 2786,
-        788, 3077, 2247, 2443, 2656, 2792, 2700, 1739, 1881, 2783, 262, 3243, 2867, 392, 1251, 316,
-        1304, 1496, 399, 1301, 440, 2343, 733, 910, 587, 1332, 54, 3327, 350, 2157, 930, 852, 2445,
-        2445, 32, 3279, 2818, 1157, 794, 3282, 461, 530, 2550, 1418, 1361, 1718, 816, 1805, 1166,
-        2004,
-    ];
-    let expected = [
-        965, 3295, 1515, 77, 1548, 3165, 2175, 519, 237, 1312, 1422, 201, 177, 87, 942, 720, 3157,
-        3282, 2264, 2245, 3200, 2437, 449, 2122, 817, 1982, 1781, 2472, 1610, 1280, 1072, 1831,
-        1130, 3090, 2906, 169, 1008, 2789, 524, 2324, 1412, 1264, 974, 2058, 2206, 552, 3266, 3076,
-        1291, 2756, 2684, 649, 778, 35, 306, 2588, 720, 1463, 1694, 2950, 962, 1805, 466, 515, 816,
-        2989, 192, 2793, 1583, 3032, 1162, 1540, 268, 2889, 907, 2559, 3259, 45, 1406, 2358, 1618,
-        2493, 847, 3231, 1783, 987, 1955, 1944, 2808, 1232, 2468, 2462, 2291, 3044, 2263, 2897,
-        1166, 1382, 2055, 1351, 3269, 124, 3264, 858, 419, 2058, 207, 3171, 676, 1995, 3015, 836,
-        1732, 1040, 2658, 957, 885, 1709, 3204, 2898, 3198, 1154, 3132, 1342, 824, 1013, 351, 20,
-        1716, 221, 1641, 1805, 1873, 2113, 961, 3057, 1813, 2117, 3307, 690, 569, 463, 2100, 2914,
-        2108, 2732, 2211, 3090, 1887, 2380, 2029, 1446, 3178, 1952, 3303, 1448, 1091, 1817, 2162,
-        333, 1246, 2757, 2692, 333, 110, 1522, 2538, 139, 246, 1732, 3016, 419, 2313, 3071, 3290,
-        2183, 1199, 521, 421, 17, 3113, 407, 1058, 2872, 2784, 55, 55, 2763, 965, 664, 1890, 395,
-        1269, 2463, 3096, 1525, 1550, 1567, 2825, 91, 2445, 1148, 264, 2459, 2894, 1218, 2255,
-        2730, 2777, 1446, 405, 1409, 2897, 849, 842, 2397, 2682, 1687, 43, 645, 2866, 2464, 1608,
-        146, 828, 2512, 1938, 2321, 2356, 193, 1859, 1161, 2362, 2446, 378, 2935, 2787, 506, 320,
-        2376, 2533, 1875, 900, 1267, 2754, 2286, 183, 330, 2245, 2272, 3246, 948, 1857, 1119, 3134,
-        1927,
-    ];
-    let transform = ntt(&polynomial(&f));
-    assert_eq!(rt; ntt_inverse(&transform).into_array(), f);
-    assert_eq!(rt; transform.into_array(), expected);
+fn samples(rt: HostRuntime) {
+    let sample = sample_ntt::<RepeatingHash<SmallAndFifty>>(&[7; 32], 1, 2);
+    let values = sample.unwrap_or_default().into_array();
+    assert!(rt; values[0] == 1 && values[255] == 50);
+    assert!(rt; sample_ntt::<RepeatingHash<Ones>>(&[7; 32], 1, 2).is_none());
+}
+
+#[test]
+fn noise(rt: HostRuntime) {
+    let narrow = sample_poly_cbd(2, &[0x3c; 128]).into_array();
+    assert!(rt; narrow[254] == 3327 && narrow[255] == 2);
+    let wide = sample_poly_cbd(3, &[0x07; 192]).into_array();
+    assert!(rt; wide[0] == 3 && wide[1] == 3328);
 }
