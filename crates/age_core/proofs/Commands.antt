@@ -1,6 +1,6 @@
 -- One answer more of a command, and one stanza more of a phase.
 use Rattle.std.proofs.Common.{◌≡◌, ◌≢◌, ℕ, Bool, true, false, not, List, [], ◌∷◌, ◌++◌, filter, Option, Some, None, Result, Ok, Err, refl, sym, ap, subst, ◌∙◌}
-use Rattle.std.specs.Prelude.{Vec, MatchOption, OnErr, codes}
+use Rattle.std.specs.Prelude.{Vec, MatchOption, OnErr, IsErrAnd, codes}
 use Rattle.std.specs.Str.{bytes_eq}
 use Rattle.std.proofs.lemmas.Slice.Eq.{bytes_eq-Decides}
 use Rattle.std.proofs.lemmas.List.Elements.{filter-append}
@@ -195,6 +195,14 @@ if_asked step f (Some tag) ss outcome last answer h ran = (outcome, h, (last, ra
 pub on_err : {A E : Type 0} {P : Type 0} (r : Result A E) → P → OnErr r P
 on_err (Ok x) p = tt
 on_err (Err e) p = p
+
+-- a refusal that is passed on
+pub err_as : {A E : Type 0} (r : Result A E) (e f : E) → IsErrAnd r (λ x. x ≡ e) → e ≡ f → r ≡ Err f
+err_as (Ok x) e f h same = absurd h
+err_as (Err x) e f h same = cc
+
+pub same_err : {A E : Type 0} (e f : E) → ◌≡◌ {A = Result A E} (Err e) (Err f) → e ≡ f
+same_err e f h = cc
 
 -- a stanza that is no `done`
 pub none_done-push : (ss : List Spelled) (s : Spelled) → NoneDone ss → s.tag ≢ codes "done" → NoneDone (ss ++ s ∷ [])

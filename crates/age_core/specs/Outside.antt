@@ -1,5 +1,5 @@
 -- What a source and a sink of bytes mean, and when a fault may be answered.
-use Rattle.std.specs.Prelude.{◌≡◌, ℕ, ◌+◌, ◌<◌, ◌≤◌, min, Bool, List, [], ◌++◌, length, take, drop, Option, Some, IfSome}
+use Rattle.std.specs.Prelude.{◌≡◌, ℕ, ◌+◌, ◌<◌, ◌≤◌, min, Bool, List, [], ◌++◌, length, take, drop, Option, Some, IfSome, Result, MatchResult}
 
 -- the last value of a count: it stands still there, at 2 ^ 64 - 1
 abbrev pub last_count : ℕ
@@ -33,6 +33,24 @@ Gains before now output = IfSome before (λ got. now ≡ Some (got ++ output))
 abbrev pub GainsPart : Option (List ℕ) → Option (List ℕ) → List ℕ → Type 0
 GainsPart before now output = IfSome before (λ got. (part : List ℕ) × (rest : List ℕ) × (output ≡ part ++ rest) × (now ≡ Some (got ++ part)))
 
+-- To a sink, of which this is seen before and behind a call, exactly this output was written.
+pub record Wrote {W : Type 0} (got : W → Option (List ℕ)) (faults : W → ℕ) (plan : W → List ℕ) (before now : W) (output : List ℕ) : Type 0 where
+  pub gained : Gains (got before) (got now) output
+  pub no_fault : faults now ≡ faults before
+  pub same_plan : plan now ≡ plan before
+
+-- A fault of the sink came, and a part of the output was written, from its front.
+pub record WrotePart {W : Type 0} (got : W → Option (List ℕ)) (faults : W → ℕ) (plan : W → List ℕ) (before now : W) (output : List ℕ) : Type 0 where
+  pub gained : GainsPart (got before) (got now) output
+  pub fault : Rose (faults before) (faults now)
+  pub no_fall : faults before ≤ faults now
+  pub same_plan : plan now ≡ plan before
+
+-- a call that writes the output: all of it, or a part of it where the sink failed
+abbrev pub Writes : {W A E : Type 0} → (W → Option (List ℕ)) → (W → ℕ) → (W → List ℕ) → W → W → Result A E → List ℕ → Type 0
+Writes got faults plan before now result output =
+    MatchResult result (λ _. Wrote got faults plan before now output) (λ _. WrotePart got faults plan before now output)
+
 -- a source over memory: the bytes that are left, the most that a read gives, the numbers of the
 -- reads that fail, and how many reads and faults there were
 pub record MemoryLeft : Type 0 where
@@ -42,10 +60,11 @@ pub record MemoryLeft : Type 0 where
   pub reads : ℕ
   pub faults : ℕ
 
--- a sink over memory: the bytes that it got, the numbers of the writes that fail, how many writes
--- and faults there were, and whether a write found no memory
+-- a sink over memory: the bytes that it got, how many it has memory for, the numbers of the writes
+-- that fail, how many writes and faults there were, and whether a write ever found no memory
 pub record MemoryGot : Type 0 where
   pub got : List ℕ
+  pub capacity : ℕ
   pub fail_at : List ℕ
   pub writes : ℕ
   pub faults : ℕ

@@ -3,8 +3,8 @@
 mod memory;
 mod standard;
 
-ghost use Rattle.std.specs.Prelude.{◌≡◌, ◌≤◌, ◌<◌, ℕ, List, ◌++◌, length, take, Option, IfOk, OnErr, OnOk, IfSome};
-ghost use Rattle.age_core.specs.Outside.{Rose, Gives, Gains, GainsPart};
+ghost use Rattle.std.specs.Prelude.{◌≡◌, ◌≤◌, ◌<◌, ℕ, List, length, take, drop, Option, IfOk, OnErr, OnOk};
+ghost use Rattle.age_core.specs.Outside.{Rose, Gives, Gains, Writes};
 
 pub use memory::{CleanSource, MemSink, MemSource, NoSink};
 pub use standard::{StdSink, StdSource};
@@ -26,12 +26,17 @@ pub trait Source {
     /// Reads bytes to the front of the buffer, and answers their number.
     ///
     /// None of a buffer that isn't empty means that no bytes are left. `Failed` comes only where
-    /// the count of faults rose in the call, or stands at its last value; it takes nothing.
+    /// the count of faults rose in the call, or stands at its last value; it takes nothing. What
+    /// stands in the buffer behind the bytes that were read is left as it was.
     fn read(&mut self, buffer: &mut [u8]) -> Result<usize, Failed>
         ensures count { IfOk result (λ n. n ≤ length buffer.old) }
         ensures told { IfOk result (λ n. Gives (left self.old) (left self.new) n buffer.new) }
+        ensures behind { IfOk result (λ n. drop n buffer.new ≡ drop n buffer.old) }
+        ensures no_fault { OnOk result (faults self.new ≡ faults self.old) }
+
         ensures failed { OnErr result (Rose (faults self.old) (faults self.new)) }
         ensures untaken { OnErr result (left self.new ≡ left self.old) }
+        ensures untouched { OnErr result (buffer.new ≡ buffer.old) }
         ensures faults { faults self.old ≤ faults self.new };
 }
 
@@ -55,6 +60,8 @@ pub trait Sink {
         ensures count { IfOk result (λ n. n ≤ length piece.now) }
         ensures some { IfOk result (λ n. 0 < length piece.now → 0 < n) }
         ensures told { IfOk result (λ n. Gains (got self.old) (got self.new) (take n piece.now)) }
+        ensures no_fault { OnOk result (faults self.new ≡ faults self.old) }
+
         ensures failed { OnErr result (Rose (faults self.old) (faults self.new)) }
         ensures untaken { OnErr result (got self.new ≡ got self.old) }
         ensures plan { plan self.new ≡ plan self.old }
@@ -63,11 +70,7 @@ pub trait Sink {
 
 /// Writes all of the bytes. At `Failed` a part of them, from their front, was written.
 pub fn write_all<W: Sink>(sink: &mut W, bytes: &[u8]) -> Result<(), Failed>
-    ensures written { OnOk result (Gains (W.got sink.old) (W.got sink.new) bytes.now) }
-    ensures part { OnErr result (GainsPart (W.got sink.old) (W.got sink.new) bytes.now) }
-    ensures failed { OnErr result (Rose (W.faults sink.old) (W.faults sink.new)) }
-    ensures plan { W.plan sink.new ≡ W.plan sink.old }
-    ensures faults { W.faults sink.old ≤ W.faults sink.new }
+    ensures { Writes W.got W.faults W.plan sink.old sink.new result bytes.now }
 {
     let mut rest = bytes;
     while !rest.is_empty() {

@@ -1,6 +1,6 @@
 //! Sources and a sink over memory.
 
-ghost use Rattle.std.specs.Prelude.{◌≡◌, ◌↔◌, ◌≤◌, ◌<◌, ◌⊎◌, ◌++◌, ℕ, List, [], true, false, length, take, drop, min, Contains, Option, Some, None, Ok, IfOk, OnErr, OnOk, IsErr, IsOk, IsTrue};
+ghost use Rattle.std.specs.Prelude.{◌≡◌, ◌↔◌, ◌≤◌, ◌<◌, ◌+◌, ◌⊎◌, ◌++◌, ℕ, List, [], true, false, length, take, drop, min, Contains, Option, Some, None, Ok, IfOk, OnErr, OnOk, IsErr, IsOk, IsTrue};
 ghost use Rattle.age_core.specs.Outside.{Rose, Gives, Gains, next_count};
 
 use super::{Failed, Sink, Source};
@@ -77,8 +77,11 @@ impl Source for MemSource {
 
         ensures count { IfOk result (λ n. n ≤ length buffer.old) }
         ensures told { IfOk result (λ n. Gives (Some self.old.left) (Some self.new.left) n buffer.new) }
+        ensures behind { IfOk result (λ n. drop n buffer.new ≡ drop n buffer.old) }
+        ensures no_fault { OnOk result (self.new.faults ≡ self.old.faults) }
         ensures failed { OnErr result (Rose self.old.faults self.new.faults) }
         ensures untaken { OnErr result (Some self.new.left ≡ Some self.old.left) }
+        ensures untouched { OnErr result (buffer.new ≡ buffer.old) }
         ensures faults { self.old.faults ≤ self.new.faults }
     {
         let number = self.reads;
@@ -133,6 +136,7 @@ impl Source for CleanSource {
 
         ensures count { IfOk result (λ n. n ≤ length buffer.old) }
         ensures told { IfOk result (λ n. Gives (Some self.old) (Some self.new) n buffer.new) }
+        ensures behind { IfOk result (λ n. drop n buffer.new ≡ drop n buffer.old) }
         ensures failed { OnErr result (Rose 0 0) }
         ensures untaken { OnErr result (Some self.new ≡ Some self.old) }
         ensures faults { 0 ≤ 0 }
@@ -155,12 +159,12 @@ pub struct MemSink {
 }
 
 impl Model for MemSink {
-    ghost use Rattle.std.specs.Prelude.{◌≡◌, ◌↔◌, ◌<◌, [], true};
+    ghost use Rattle.std.specs.Prelude.{◌≡◌, ◌↔◌, ◌<◌, [], true, vec_capacity};
     ghost use Rattle.age_core.specs.Outside.{MemoryGot};
 
     ghost Value = { MemoryGot };
 
-    ghost view = { λ s. record { got = s.bytes.items; fail_at = s.fail_at.items; writes = s.writes; faults = s.faults; ran_out = s.ran_out } };
+    ghost view = { λ s. record { got = s.bytes.items; capacity = vec_capacity s.bytes; fail_at = s.fail_at.items; writes = s.writes; faults = s.faults; ran_out = s.ran_out } };
 
     // With no write that is to fail, a fault is want of memory.
     ghost invariant = { λ s. s.fail_at.items ≡ [] → (0 < s.faults) ↔ (s.ran_out ≡ true) };
@@ -170,7 +174,7 @@ impl MemSink {
     /// An empty sink, which fails at the writes whose number from 0 stands in `fail_at`, where it
     /// finds no memory, and nowhere else.
     pub fn new(alloc: Global, fail_at: Vec<u64>) -> MemSink
-        ensures { result ≡ record { got = []; fail_at = fail_at.items; writes = 0; faults = 0; ran_out = false } }
+        ensures { result ≡ record { got = []; capacity = 0; fail_at = fail_at.items; writes = 0; faults = 0; ran_out = false } }
     {
         MemSink {
             bytes: Vec::new(alloc),
@@ -206,26 +210,31 @@ impl Sink for MemSink {
     ghost plan = { λ s. s.fail_at };
 
     fn write(&mut self, piece: &[u8]) -> Result<usize, Failed>
-        // Which writes fail: those of the plan, and those that found no memory.
+        // Which writes fail: those of the plan, and those that needed memory and found none.
         ensures listed { Contains self.old.fail_at self.old.writes → IsErr result }
-        ensures others { IsErr result → Contains self.old.fail_at self.old.writes ⊎ (self.new.ran_out ≡ true) }
+        ensures others { IsErr result → Contains self.old.fail_at self.old.writes
+            ⊎ ((self.old.capacity < length self.old.got + length piece.now) × (self.new.ran_out ≡ true)) }
         ensures all { IfOk result (λ n. n ≡ length piece.now) }
 
         // What stands afterwards.
         ensures ok { OnOk result (self.new ≡ record self.old {
           got = self.old.got ++ piece.now;
+          capacity = self.new.capacity;
           writes = next_count self.old.writes;
         }) }
         ensures err { OnErr result (self.new ≡ record self.old {
           writes = next_count self.old.writes;
           faults = next_count self.old.faults;
+          capacity = self.new.capacity;
           ran_out = self.new.ran_out;
         }) }
+        ensures room { self.old.capacity ≤ self.new.capacity }
         ensures kept { Contains self.old.fail_at self.old.writes → self.new.ran_out ≡ self.old.ran_out }
 
         ensures count { IfOk result (λ n. n ≤ length piece.now) }
         ensures some { IfOk result (λ n. 0 < length piece.now → 0 < n) }
         ensures told { IfOk result (λ n. Gains (Some self.old.got) (Some self.new.got) (take n piece.now)) }
+        ensures no_fault { OnOk result (self.new.faults ≡ self.old.faults) }
         ensures failed { OnErr result (Rose self.old.faults self.new.faults) }
         ensures untaken { OnErr result (Some self.new.got ≡ Some self.old.got) }
         ensures plan { self.new.fail_at ≡ self.old.fail_at }

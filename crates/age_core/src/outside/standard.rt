@@ -3,7 +3,7 @@
 //! As a source and a sink they tell nothing. Clauses of their own say what the reader gave and what
 //! was handed to the writer, by what the standard library says of those.
 
-ghost use Rattle.std.specs.Prelude.{◌≡◌, ◌≤◌, ◌<◌, [], None, length, take, IfOk, IfSome, IfNone, OnErr, OnOk};
+ghost use Rattle.std.specs.Prelude.{◌≡◌, ◌≤◌, ◌<◌, [], None, length, take, drop, IfOk, IfSome, IfNone, OnErr, OnOk};
 ghost use Rattle.std.specs.Io.KnownBytes.{Consumes, Keeps, Appends, IsAtEnd};
 ghost use Rattle.age_core.specs.Outside.{Rose, Gives, Gains, next_count};
 ghost use Rattle.age_core.specs.Adapters.{AppendsFront};
@@ -16,6 +16,9 @@ use std::io::{ErrorKind, Read, Write};
 
 /// How often an interrupted call is repeated.
 const RETRIES: u32 = 16;
+
+/// The most bytes that are asked of a reader at once.
+const PIECE_LEN: usize = 4096;
 
 /// A source over a reader, as standard input.
 #[derive(Drop)]
@@ -43,7 +46,8 @@ impl<R: Read> Source for StdSource<R> {
 
     ghost faults = { source_faults };
 
-    /// Reads once; an interrupted call is repeated 16 times at most, and is then a fault.
+    /// Reads once, 4096 bytes at most; an interrupted call is repeated 16 times at most, and is then
+    /// a fault.
     fn read(&mut self, buffer: &mut [u8]) -> Result<usize, Failed>
         // The bytes are those that the reader lost, and there are none only at its end.
         ensures given { IfOk result (λ n. Consumes (R.remaining (source_reader self.old)) (R.remaining (source_reader self.new)) (take n buffer.new)) }
@@ -52,13 +56,20 @@ impl<R: Read> Source for StdSource<R> {
 
         // The count rises by one at a failure, up to its last value, and never else.
         ensures counted { OnErr result (source_faults self.new ≡ next_count (source_faults self.old)) }
-        ensures uncounted { OnOk result (source_faults self.new ≡ source_faults self.old) }
+        ensures no_fault { OnOk result (source_faults self.new ≡ source_faults self.old) }
 
         ensures count { IfOk result (λ n. n ≤ length buffer.old) }
+        ensures behind { IfOk result (λ n. drop n buffer.new ≡ drop n buffer.old) }
         ensures failed { OnErr result (Rose (source_faults self.old) (source_faults self.new)) }
+        ensures untouched { OnErr result (buffer.new ≡ buffer.old) }
         ensures faults { source_faults self.old ≤ source_faults self.new }
     {
-        if let Some(n) = given(&mut self.reader, buffer) {
+        // No clause of a reader says what it leaves behind the bytes that it gave, so it gets a buffer
+        // of its own.
+        let mut piece = [0; PIECE_LEN];
+        let most = buffer.len().min(PIECE_LEN);
+        if let Some(n) = given(&mut self.reader, &mut piece[..most]) {
+            buffer[..n].copy_from_slice(&piece[..n]);
             return Ok(n);
         }
         self.faults = self.faults.saturating_add(1);
@@ -121,7 +132,7 @@ impl<W: Write> Sink for StdSink<W> {
 
         // The count rises by one at a failure, up to its last value, and never else.
         ensures counted { OnErr result (sink_faults self.new ≡ next_count (sink_faults self.old)) }
-        ensures uncounted { OnOk result (sink_faults self.new ≡ sink_faults self.old) }
+        ensures no_fault { OnOk result (sink_faults self.new ≡ sink_faults self.old) }
 
         ensures count { IfOk result (λ n. n ≤ length piece.now) }
         ensures some { IfOk result (λ n. 0 < length piece.now → 0 < n) }

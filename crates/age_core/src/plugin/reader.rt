@@ -107,6 +107,7 @@ impl StanzaReader {
             × (0 < length bytes) × (self.old.budget ≡ self.new.budget + length bytes) × Took (S.left source.old) (S.left source.new) bytes) }
         ensures unread { OnErr result ((self.new ≡ self.old) × Took (S.left source.old) (S.left source.new) []) }
         ensures read_fault { IsErrOf result PhaseError.ReadFault → Rose (S.faults source.old) (S.faults source.new) × (0 < self.old.budget) }
+        ensures no_fault { (IsErrOf result PhaseError.ReadFault → ⊥) → S.faults source.new ≡ S.faults source.old }
         ensures invalid_data { IsErrOf result PhaseError.InvalidData → ⊥ }
         ensures unexpected_eof { IsErrOf result PhaseError.UnexpectedEof → (0 < self.old.budget)
             × IfSome (S.left source.old) (λ text. S.left source.new ≡ Some []) }
@@ -119,7 +120,7 @@ impl StanzaReader {
         drop_front(&mut self.buffer, self.given);
         self.given = 0;
         let most = self.budget.min(PIECE_LEN as u64) as usize;
-        let n = read_behind(source, &mut self.buffer, most)?;
+        let n = read_behind(source, &mut self.buffer, most, self.budget)?;
         if n == 0 {
             return Err(PhaseError::UnexpectedEof);
         }
@@ -151,6 +152,8 @@ impl StanzaReader {
         ensures kept { OnErr result (Receives self.old self.new (S.left source.old) (S.left source.new) []) }
         ensures read_fault { IsErrOf result PhaseError.ReadFault → Rose (S.faults source.old) (S.faults source.new)
             × IsFront self.new.bytes × (0 < self.new.budget) }
+        // So the first fault of the source is the answer, and nothing is read behind it.
+        ensures no_fault { (IsErrOf result PhaseError.ReadFault → ⊥) → S.faults source.new ≡ S.faults source.old }
         ensures invalid_data { IsErrOf result PhaseError.InvalidData → IsMalformed self.new.bytes }
         ensures unexpected_eof { IsErrOf result PhaseError.UnexpectedEof → IsFront self.new.bytes × (0 < self.new.budget)
             × IfSome (S.left source.old) (λ text. S.left source.new ≡ Some []) }
@@ -192,34 +195,39 @@ fn read_behind<S: Source>(
     source: &mut S,
     buffer: &mut Vec<u8>,
     most: usize,
+    budget: u64,
 ) -> Result<usize, PhaseError>
     requires some { 0 < most }
     requires piece { most ≤ PIECE_LEN }
+    requires afforded { most ≤ budget }
     ensures read { IfOk result (λ n. (bytes : List ℕ) × (buffer.new.items ≡ buffer.old.items ++ bytes) × (length bytes ≡ n)
         × (n ≤ most) × Took (S.left source.old) (S.left source.new) bytes) }
     ensures ended { IfOk result (λ n. n ≡ 0 → IfSome (S.left source.old) (λ text. S.left source.new ≡ Some [])) }
     ensures unread { OnErr result ((buffer.new.items ≡ buffer.old.items) × (S.left source.new ≡ S.left source.old)) }
-    ensures refused { IfErr result (λ e. (e ≡ PhaseError.NoMemory)
+    ensures refused { IfErr result (λ e. ((e ≡ PhaseError.NoMemory) × (S.faults source.new ≡ S.faults source.old))
         ⊎ ((e ≡ PhaseError.ReadFault) × Rose (S.faults source.old) (S.faults source.new))) }
+    ensures no_fault { OnOk result (S.faults source.new ≡ S.faults source.old) }
     ensures faults { S.faults source.old ≤ S.faults source.new }
 {
     buffer.reserve(most)?;
     let mut piece = [0; PIECE_LEN];
-    let n = read_once(source, &mut piece[..most])?;
+    let n = read_once(source, &mut piece[..most], budget)?;
     match buffer.extend_from_slice(&piece[..n]) {
         Ok(()) => Ok(n),
         Err(_) => unreachable!(),
     }
 }
 
-/// Reads once, to the front of a piece that isn't empty.
-fn read_once<S: Source>(source: &mut S, piece: &mut [u8]) -> Result<usize, PhaseError>
-    requires { 0 < length piece.old }
+/// Reads once, to the front of a piece that isn't empty, and that is no longer than the budget.
+fn read_once<S: Source>(source: &mut S, piece: &mut [u8], budget: u64) -> Result<usize, PhaseError>
+    requires some { 0 < length piece.old }
+    requires afforded { length piece.old ≤ budget }
     ensures count { IfOk result (λ n. n ≤ length piece.old) }
     ensures read { IfOk result (λ n. Took (S.left source.old) (S.left source.new) (take n piece.new)) }
     ensures ended { IfOk result (λ n. n ≡ 0 → IfSome (S.left source.old) (λ text. S.left source.new ≡ Some [])) }
     ensures unread { OnErr result (S.left source.new ≡ S.left source.old) }
     ensures refused { IfErr result (λ e. (e ≡ PhaseError.ReadFault) × Rose (S.faults source.old) (S.faults source.new)) }
+    ensures no_fault { OnOk result (S.faults source.new ≡ S.faults source.old) }
     ensures faults { S.faults source.old ≤ S.faults source.new }
 {
     match source.read(piece) {

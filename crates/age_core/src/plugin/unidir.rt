@@ -231,6 +231,7 @@ impl<R: Source, W: Sink> Connection<R, W> {
             × Receives (held_by self.old) (held_by self.new) (R.left (source_of self.old)) (R.left (source_of self.new)) stanzas) }
         ensures read_fault { IsErrOf result PhaseError.ReadFault → Rose (R.faults (source_of self.old)) (R.faults (source_of self.new))
             × IsFront (held_by self.new).bytes × (0 < (held_by self.new).budget) }
+        ensures no_fault { (IsErrOf result PhaseError.ReadFault → ⊥) → R.faults (source_of self.new) ≡ R.faults (source_of self.old) }
         ensures invalid_data { IsErrOf result PhaseError.InvalidData → IsMalformed (held_by self.new).bytes }
         ensures unexpected_eof { IsErrOf result PhaseError.UnexpectedEof → IsFront (held_by self.new).bytes × (0 < (held_by self.new).budget)
             × IfSome (R.left (source_of self.old)) (λ text. R.left (source_of self.new) ≡ Some []) }

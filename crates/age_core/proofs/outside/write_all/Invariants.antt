@@ -9,7 +9,7 @@ invariant-loop-rest g l =
     record {
       gained : IfSome (sink.got l.fn.sink) (λ got. (done : List ℕ) × (l.bytes ≡ done ++ l.rest) × (sink.got l.sink ≡ Some (got ++ done)));
       plan : sink.plan l.sink ≡ sink.plan l.fn.sink;
-      faults : sink.faults l.fn.sink ≤ sink.faults l.sink;
+      no_fault : sink.faults l.sink ≡ sink.faults l.fn.sink;
     }
 
 abbrev pub decreases-loop-rest : goal.decreases-loop-rest

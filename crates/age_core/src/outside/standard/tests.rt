@@ -121,7 +121,7 @@ fn no_byte_of_a_long_text_is_lost(rt: HostRuntime) -> Result<(), Fail> {
     let mut source = StdSource::new(&mut reader);
     let mut got = Vec::new(rt.alloc());
     let mut buffer = [0u8; 9001];
-    for _ in 0..4 {
+    for _ in 0..6 {
         let Ok(n) = source.read(&mut buffer) else {
             break;
         };

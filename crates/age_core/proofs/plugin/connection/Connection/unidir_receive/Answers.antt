@@ -2,13 +2,14 @@ use Rattle.std.proofs.Common.{◌≡◌, [], ◌∷◌, ◌++◌, map, refl, sym
 use Rattle.std.specs.Option.{option_copied}
 use Rattle.std.specs.String.{string_bytes}
 use Rattle.std.proofs.lemmas.List.{append-nil, map_push}
+use Rattle.age_core.specs.declared.plugin.PhaseError.TheVariants.{ReadFault}
 use Rattle.age_core.specs.Stanza.{stanza_of}
 use Rattle.age_core.specs.Reading.{NoneDone}
 use Rattle.age_core.specs.Receiving.{Receives}
 use Rattle.age_core.specs.Connecting.{source_of, held_by}
 use Rattle.age_core.specs.Phases.{Commands, for_a, for_b, for_c, for_d}
 use Rattle.age_core.proofs.Receipts.{receives_none, receives_both, receives_less}
-use Rattle.age_core.proofs.Commands.{for_a-append, for_b-append, for_c-append, for_d-append, if_asked, on_err, none_done-push, not_done, is_done}
+use Rattle.age_core.proofs.Commands.{for_a-append, for_b-append, for_c-append, for_d-append, if_asked, on_err, err_as, same_err, none_done-push, not_done, is_done}
 use Rattle.age_core.proofs.plugin.connection.Connection.unidir_receive.Goals as goal
 
 pub loop-running-init : goal.loop-running-init
@@ -26,7 +27,7 @@ loop-running-init g c = record {
     ([], refl, (refl, c.new-3.ensures.items)),
     ([], refl, (refl, c.new-4.ensures.items)),
   );
-  faults = omega arith;
+  no_fault = refl;
   sink = refl;
 }
 
@@ -93,6 +94,9 @@ loop-running-preserved g c =
         rw (for_c-append tags taken.0 one) (c.in_ok-running.ensures.c c.args.on_c (for_c tags taken.0) taken.5),
         rw (for_d-append tags taken.0 one) (c.in_ok-running.ensures.d c.args.on_d (for_d tags taken.0) taken.6),
       );
-      faults = omega (arith, c.in_ok-stanza.ensures.faults, inv.faults);
+      no_fault = c.in_ok-stanza.ensures.no_fault (λ none. absurd cc) ∙ inv.no_fault;
       sink = c.in_ok-stanza.ensures.sink ∙ inv.sink;
     }
+
+pub returns-in_err-stanza-clause-no_fault : goal.returns-in_err-stanza-clause-no_fault
+returns-in_err-stanza-clause-no_fault g c other = c.in_err-stanza.ensures.no_fault (λ is. other (err_as c.from_residual.result c.in_err-stanza.field-0.0 ReadFault c.from_residual.ensures.1 (same_err _ _ is))) ∙ c.loop-running.invariant.no_fault

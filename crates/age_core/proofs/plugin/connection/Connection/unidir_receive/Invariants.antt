@@ -24,7 +24,7 @@ invariant-loop-running g l =
           × Ran (goal.G-step g) l.fn.on_b (for_b tags stanzas) l.running.b l.running.on_b
           × Ran (goal.H-step g) l.fn.on_c (for_c tags stanzas) l.running.c l.running.on_c
           × Ran (goal.I-step g) l.fn.on_d (for_d tags stanzas) l.running.d l.running.on_d;
-      faults : g.R.Source.faults (source_of l.fn.self) ≤ g.R.Source.faults (source_of l.self);
+      no_fault : g.R.Source.faults (source_of l.self) ≡ g.R.Source.faults (source_of l.fn.self);
       sink : sink_of l.self ≡ sink_of l.fn.self;
     }
 

@@ -1,7 +1,8 @@
 use Rattle.std.proofs.Common.{◌≡◌, ℕ, List, [], ◌++◌, refl, ap, sym, subst, ◌∙◌, inl, inr, arith}
+use Rattle.age_core.specs.declared.plugin.PhaseError.TheVariants.{ReadFault}
 use Rattle.age_core.specs.Stanza.{IsFront, stanza_of}
 use Rattle.age_core.specs.Receiving.{Held}
-use Rattle.age_core.proofs.Commands.{on_err}
+use Rattle.age_core.proofs.Commands.{on_err, err_as, same_err}
 use Rattle.age_core.proofs.Receipts.{receives_none, receives_both, receives_read, receives_held, behind_last}
 use Rattle.age_core.proofs.plugin.reader.StanzaReader.receive_from.Goals as goal
 
@@ -10,7 +11,7 @@ loop-stanza-init g c = record {
   received = receives_none c.args.self.now (g.S.Source.left c.args.source.now);
   unread = λ _. (refl, refl);
   last = inl refl;
-  faults = omega arith;
+  no_fault = refl;
 }
 
 pub loop-stanza-preserved : goal.loop-stanza-preserved
@@ -25,7 +26,7 @@ loop-stanza-preserved g c =
       received = receives_both c.args.self.now c.loop-stanza.self c.read_piece.new.self (left c.args.source.now) (left c.loop-stanza.source) (left c.read_piece.new.source) [] [] inv.received more;
       unread = λ none. absurd (none (subst (λ (h : Held). IsFront h.bytes) (inv.unread none).0 front.0));
       last = inr (c.loop-stanza.self.bytes, read.0, held, front.0, read.2);
-      faults = omega (arith, c.in_ok-read_piece-in-Front.ensures.faults, inv.faults);
+      no_fault = c.in_ok-read_piece-in-Front.ensures.no_fault (λ none. absurd cc) ∙ inv.no_fault;
     }
 
 pub returns-in-Stanza-clause-given : goal.returns-in-Stanza-clause-given
@@ -50,3 +51,6 @@ returns-in_err-read_piece-in-Front-clause-behind_refusal g c =
     let front = c.in_ok-stanza.ensures.front c.in-Front.is in
     let held : c.read_piece.new.self.bytes ≡ c.loop-stanza.self.bytes = ap (λ (h : Held). h.bytes) c.in_err-read_piece-in-Front.ensures.unread.0 ∙ front.1 in
     on_err c.from_residual-in_err-read_piece-in-Front.result (λ none stanza rest is e. behind_last c.args.self.now.bytes c.loop-stanza.self.bytes rest stanza c.loop-stanza.invariant.last is (sym held ∙ e) none)
+
+pub returns-in_err-read_piece-in-Front-clause-no_fault : goal.returns-in_err-read_piece-in-Front-clause-no_fault
+returns-in_err-read_piece-in-Front-clause-no_fault g c other = c.in_err-read_piece-in-Front.ensures.no_fault (λ is. other (err_as c.from_residual-in_err-read_piece-in-Front.result c.in_err-read_piece-in-Front.field-0.0 ReadFault c.from_residual-in_err-read_piece-in-Front.ensures.1 (same_err _ _ is))) ∙ c.loop-stanza.invariant.no_fault

@@ -1,4 +1,4 @@
-use Rattle.std.proofs.Common.{◌≡◌, ◌≤◌, []}
+use Rattle.std.proofs.Common.{◌≡◌, []}
 use Rattle.age_core.specs.Stanza.{IsFront}
 use Rattle.age_core.specs.Receiving.{Receives}
 use Rattle.age_core.proofs.Receipts.{LastPiece}
@@ -12,7 +12,7 @@ invariant-loop-stanza g l =
       received : Receives l.fn.self l.self (left l.fn.source) (left l.source) [];
       unread : (IsFront l.fn.self.bytes → ⊥) → (l.self ≡ l.fn.self) × (l.source ≡ l.fn.source);
       last : LastPiece l.fn.self.bytes l.self.bytes;
-      faults : g.S.Source.faults l.fn.source ≤ g.S.Source.faults l.source;
+      no_fault : g.S.Source.faults l.source ≡ g.S.Source.faults l.fn.source;
     }
 
 abbrev pub decreases-loop-stanza : goal.decreases-loop-stanza
