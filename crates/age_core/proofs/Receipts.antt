@@ -3,16 +3,17 @@ use Rattle.std.proofs.Common.{◌≡◌, ℕ, ◌+◌, ◌<◌, ◌≤◌, List,
 use Rattle.std.specs.List.{flat_map, AllByRecursion}
 use Rattle.std.proofs.Math.Seq.{take-append-add}
 use Rattle.std.proofs.lemmas.Bool.{cases_lt}
-use Rattle.std.proofs.lemmas.List.{append-nil, length-append, take_all}
+use Rattle.std.proofs.lemmas.List.{append-nil, length-append, nil_from_length, take_all}
 use Rattle.std.proofs.lemmas.List.Concat.{flat_map-append}
 use Rattle.age_core.specs.declared.front.Place.TheVariants.{Start}
 use Rattle.age_core.specs.declared.front.Step.TheVariants.{To}
 use Rattle.age_core.specs.Stanza.{Stanza, IsStanza, IsFront, spelling}
 use Rattle.age_core.specs.Front.{BeginsNone, IsMalformed}
-use Rattle.age_core.specs.Reading.{IsDone, NoneDone, HasNoDone, Before_done, Invalid_data, Unexpected_eof, Too_much, Reads}
+use Rattle.age_core.specs.Reading.{IsDone, NoneDone, HasNoDone, StandsBeforeDone, Before_done, Invalid_data, Unexpected_eof, Too_much, Reads}
 use Rattle.age_core.specs.Receiving.{Held, Took, Receives}
 use Rattle.age_core.specs.Sight.{sight, At, Whole}
 use Rattle.age_core.proofs.Sights.{sight_spelling}
+use Rattle.age_core.proofs.Stanzas.{the_same_stanza as same_stanza}
 use Rattle.age_core.proofs.Fronts.{front_seen}
 
 -- ---- fronts and spellings
@@ -68,19 +69,34 @@ malformed_longer text more bad = record {
       ];
 }
 
--- nothing was read, or what is held is a front and a piece of at most 4096 bytes
-abbrev pub LastPiece : List ℕ → List ℕ → Type 0
-LastPiece before now = (now ≡ before) ⊎ ((front : List ℕ) × (piece : List ℕ) × (now ≡ front ++ piece) × IsFront front × (length piece ≤ 4096))
+-- what is held is a front and a piece of at most 4096 bytes
+abbrev pub EndsInPiece : List ℕ → Type 0
+EndsInPiece now = (front : List ℕ) × (piece : List ℕ) × (now ≡ front ++ piece) × IsFront front × (length piece ≤ 4096)
 
--- so at most 4095 bytes stand behind a stanza that wasn't held
-pub behind_last : (before now rest : List ℕ) (s : Stanza) → LastPiece before now → IsStanza s → now ≡ spelling s ++ rest → BeginsNone before → length rest ≤ 4095
-behind_last before now rest s (inl same) is e none = absurd (none s rest is (sym same ∙ e))
-behind_last before now rest s (inr last) is e none =
+-- so at most 4095 bytes stand behind a stanza
+pub behind_piece : (now rest : List ℕ) (s : Stanza) → EndsInPiece now → IsStanza s → now ≡ spelling s ++ rest → length rest ≤ 4095
+behind_piece now rest s last is e =
     let whole : last.0 ++ last.1 ≡ spelling s ++ rest = sym last.2 ∙ e in
     let lt = front_shorter last.0 last.1 rest s last.3 is whole in
     let sum : length last.0 + length last.1 ≡ length (spelling s) + length rest = sym (length-append last.0 last.1) ∙ (ap length whole ∙ length-append (spelling s) rest) in
     let piece = last.4 in
     omega (arith, lt, sum, piece)
+
+-- nothing was read, or what is held ends in such a piece
+abbrev pub Last : {S : Type 0} → Held → Held → S → S → Type 0
+Last before now source_before source_now = ((now ≡ before) × (source_now ≡ source_before)) ⊎ EndsInPiece now.bytes
+
+pub behind_last : {S : Type 0} (before now : Held) (old new : S) (rest : List ℕ) (s : Stanza) → Last before now old new → IsStanza s → now.bytes ≡ spelling s ++ rest → BeginsNone before.bytes → length rest ≤ 4095
+behind_last before now old new rest s (inl same) is e none = absurd (none s rest is (ap (λ (h : Held). h.bytes) (sym same.0) ∙ e))
+behind_last before now old new rest s (inr last) is e none = behind_piece now.bytes rest s last is e
+
+-- nothing was read, or at most 4095 bytes are held
+abbrev pub Little : {S : Type 0} → Held → Held → S → S → Type 0
+Little before now source_before source_now = ((source_now ≡ source_before) × (now.budget ≡ before.budget)) ⊎ (length now.bytes ≤ 4095)
+
+pub little_behind : {S : Type 0} (before mid now : Held) (old new : S) (s : Stanza) → Last before mid old new → IsStanza s → mid.bytes ≡ spelling s ++ now.bytes → now.budget ≡ mid.budget → Little before now old new
+little_behind before mid now old new s (inl same) is e paid = inl (same.1, paid ∙ ap (λ (h : Held). h.budget) same.0)
+little_behind before mid now old new s (inr last) is e paid = inr (behind_piece mid.bytes now.bytes s last is e)
 
 -- ---- runs of receiving
 
@@ -136,6 +152,19 @@ receives_held a b l s is held same = record {
   paid = omega (arith, same);
   told = took_none l;
 }
+
+-- a stanza that was given with nothing read stood at the front of what was held
+pub receives_unpaid : (a b : Held) (l m : Option (List ℕ)) (s : Stanza) → Receives a b l m (s ∷ []) → b.budget ≡ a.budget → a.bytes ≡ spelling s ++ b.bytes
+receives_unpaid a b l m s r same =
+    let none : r.taken ≡ [] = nil_from_length r.taken (let p = r.paid in omega (arith, p, same)) in
+    sym (append-nil a.bytes) ∙ (ap (λ (t : List ℕ). a.bytes ++ t) (sym none) ∙ (r.whole ∙ ap (λ (t : List ℕ). t ++ b.bytes) (append-nil (spelling s))))
+
+-- one stanza more, with little held behind each
+pub little_more : {S : Type 0} (first a b : Held) (old mid new : S) (l m : Option (List ℕ)) (s : Stanza) → Little first a old mid → Receives a b l m (s ∷ []) → Little a b mid new → Little first b old new
+little_more first a b old mid new l m s before r (inr few) = inr few
+little_more first a b old mid new l m s (inl same) r (inl more) = inl (more.0 ∙ same.0, more.1 ∙ same.1)
+little_more first a b old mid new l m s (inr few) r (inl more) =
+    inr (omega (arith, few, ap length (receives_unpaid a b l m s r more.1) ∙ length-append (spelling s) b.bytes))
 
 -- a stanza that was given is held or to be read no more
 pub receives_less : (a b : Held) (l m : Option (List ℕ)) (s : Stanza) → Receives a b l m (s ∷ []) → length b.bytes + b.budget < length a.bytes + a.budget
@@ -238,6 +267,52 @@ module _ (before now : Held) (text : List ℕ) (left : Option (List ℕ)) where
       let no_more : take now.budget r.told.0 ≡ [] = ap (λ (n : ℕ). take n r.told.0) spent in
       let len : length text ≡ length r.taken + length r.told.0 = ap length r.told.1 ∙ length-append r.taken r.told.0 in
       (now.bytes, held_rest stanzas r none front no_more, front, let p = r.paid in omega (arith, len, spent, length-append before.bytes text))
+
+-- ---- whole phases
+
+-- a text with a `done` is no front
+pub phase_no_front : (text : List ℕ) (stanzas : List Stanza) → StandsBeforeDone text stanzas → IsFront text → ⊥
+phase_no_front text [] stands front = front_begins_none text front stands.last stands.rest stands.last_is_stanza stands.whole
+phase_no_front text (s ∷ ss) stands front =
+    front_begins_none text front s (flat_map spelling ss ++ (spelling stands.last ++ stands.rest)) stands.each.0 (stands.whole ∙ append_assoc (spelling s) (flat_map spelling ss) (spelling stands.last ++ stands.rest))
+
+-- behind a stanza that is no `done` the phase goes on
+pub phase_behind : (text more : List ℕ) (s : Stanza) (stanzas : List Stanza) → text ≡ spelling s ++ more → IsStanza s → (IsDone s → ⊥) → StandsBeforeDone text stanzas
+    → (others : List Stanza) × StandsBeforeDone more others
+phase_behind text more s [] is stanza other stands =
+    let first = same_stanza s stands.last more stands.rest stanza stands.last_is_stanza (sym is ∙ stands.whole) in
+    absurd (other (subst IsDone (sym first.0) stands.last_is_done))
+phase_behind text more s (t ∷ ts) is stanza other stands =
+    let rest : List ℕ = flat_map spelling ts ++ (spelling stands.last ++ stands.rest) in
+    let first = same_stanza s t more rest stanza stands.each.0 (sym is ∙ (stands.whole ∙ append_assoc (spelling t) (flat_map spelling ts) (spelling stands.last ++ stands.rest))) in
+    (ts, record {
+      last = stands.last;
+      rest = stands.rest;
+      whole = first.1;
+      each = stands.each.1;
+      none_done = stands.none_done.1;
+      last_is_stanza = stands.last_is_stanza;
+      last_is_done = stands.last_is_done;
+    })
+
+-- where a whole phase was held first, nothing was read, and a whole phase is held
+abbrev pub StillHeld : {S : Type 0} → Held → Held → S → S → Type 0
+StillHeld first now old new = (stanzas : List Stanza) → StandsBeforeDone first.bytes stanzas → (new ≡ old) × (more : List Stanza) × StandsBeforeDone now.bytes more
+
+-- then the next receiving reads nothing
+pub held_unread : {S : Type 0} (first a : Held) (old mid new : S) → StillHeld first a old mid → ((IsFront a.bytes → ⊥) → new ≡ mid)
+    → (stanzas : List Stanza) → StandsBeforeDone first.bytes stanzas → new ≡ old
+held_unread first a old mid new still unread stanzas stands =
+    let held = still stanzas stands in
+    unread (phase_no_front a.bytes held.1 held.2) ∙ held.0
+
+pub held_more : {S : Type 0} (first a b : Held) (old mid new : S) (l m : Option (List ℕ)) (s : Stanza) → StillHeld first a old mid → ((IsFront a.bytes → ⊥) → new ≡ mid)
+    → ((IsFront a.bytes → ⊥) → b.budget ≡ a.budget) → Receives a b l m (s ∷ []) → (IsDone s → ⊥) → StillHeld first b old new
+held_more first a b old mid new l m s still unread unpaid r other stanzas stands =
+    let held = still stanzas stands in
+    let no_front = phase_no_front a.bytes held.1 held.2 in
+    let more = phase_behind a.bytes b.bytes s held.1 (receives_unpaid a b l m s r (unpaid no_front)) r.each.0 other held.2 in
+    (unread no_front ∙ held.0, more.0, more.1)
 
 -- the bytes that were taken hold no `done`, where none was given
 pub taken_no_done : (before now : Held) (l m : Option (List ℕ)) (stanzas : List Stanza) → Receives before now l m stanzas → NoneDone stanzas → IsFront now.bytes

@@ -1,6 +1,6 @@
 //! A connection to the other side: what it sends is received, and what goes to it is sent.
 
-ghost use Rattle.std.specs.Prelude.{◌≡◌, ◌≤◌, ◌<◌, ◌++◌, ℕ, List, [], ◌∷◌, length, Some, IfOk, IfSome, IsErrOf, OnOk, OnErr};
+ghost use Rattle.std.specs.Prelude.{◌≡◌, ◌≤◌, ◌<◌, ◌++◌, ◌⊎◌, ℕ, List, [], ◌∷◌, length, Some, IfOk, IfSome, IsErrOf, OnOk, OnErr};
 ghost use Rattle.age_core.specs.Outside.{Rose};
 ghost use Rattle.age_core.specs.Stanza.{Stanza as Spelled, IsStanza, IsFront, stanza_of, spelling};
 ghost use Rattle.age_core.specs.Front.{BeginsNone, IsMalformed};
@@ -57,13 +57,15 @@ impl<R: Source, W: Sink> Connection<R, W> {
     pub fn receive(&mut self) -> std::result::Result<Stanza, PhaseError>
         ensures given { IfOk result (λ stanza. Receives (held_by self.old) (held_by self.new)
             (R.left (source_of self.old)) (R.left (source_of self.new)) (stanza_of stanza ∷ [])) }
-        // At most 4095 bytes are held behind a stanza that had to be read.
-        ensures behind { OnOk result (BeginsNone (held_by self.old).bytes → length (held_by self.new).bytes ≤ 4095) }
-        // Nor are more held behind it where a refusal, for want of memory, leaves it held.
+        // Nothing was read, or at most 4095 bytes are held behind the stanza.
+        ensures behind { OnOk result (((source_of self.new ≡ source_of self.old) × ((held_by self.new).budget ≡ (held_by self.old).budget))
+            ⊎ (length (held_by self.new).bytes ≤ 4095)) }
+        // Nor are more held behind one that had to be read where a refusal, for want of memory, leaves it held.
         ensures behind_refusal { OnErr result (BeginsNone (held_by self.old).bytes → (stanza : Spelled) (rest : List ℕ) → IsStanza stanza
             → (held_by self.new).bytes ≡ spelling stanza ++ rest → length rest ≤ 4095) }
         // What is no proper prefix of a spelling is enough, and nothing is read.
         ensures unread { (IsFront (held_by self.old).bytes → ⊥) → source_of self.new ≡ source_of self.old }
+        ensures unpaid { (IsFront (held_by self.old).bytes → ⊥) → (held_by self.new).budget ≡ (held_by self.old).budget }
 
         // What was read before a refusal is held.
         ensures kept { OnErr result (Receives (held_by self.old) (held_by self.new)

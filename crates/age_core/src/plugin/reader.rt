@@ -140,13 +140,14 @@ impl StanzaReader {
     /// `UnexpectedEof`: the source ended. `TooMuch`: the budget is used up.
     pub fn receive_from<S: Source>(&mut self, source: &mut S) -> Result<Stanza, PhaseError>
         ensures given { IfOk result (λ stanza. Receives self.old self.new (S.left source.old) (S.left source.new) (stanza_of stanza ∷ [])) }
-        // At most 4095 bytes are held behind a stanza that had to be read.
-        ensures behind { OnOk result (BeginsNone self.old.bytes → length self.new.bytes ≤ 4095) }
-        // Nor are more held behind it where a refusal, for want of memory, leaves it held.
+        // Nothing was read, or at most 4095 bytes are held behind the stanza.
+        ensures behind { OnOk result (((source.new ≡ source.old) × (self.new.budget ≡ self.old.budget)) ⊎ (length self.new.bytes ≤ 4095)) }
+        // Nor are more held behind one that had to be read where a refusal, for want of memory, leaves it held.
         ensures behind_refusal { OnErr result (BeginsNone self.old.bytes → (stanza : Spelled) (rest : List ℕ) → IsStanza stanza
             → self.new.bytes ≡ spelling stanza ++ rest → length rest ≤ 4095) }
         // What is no proper prefix of a spelling is enough, and nothing is read.
         ensures unread { (IsFront self.old.bytes → ⊥) → source.new ≡ source.old }
+        ensures unpaid { (IsFront self.old.bytes → ⊥) → self.new.budget ≡ self.old.budget }
 
         // What was read before a refusal is held.
         ensures kept { OnErr result (Receives self.old self.new (S.left source.old) (S.left source.new) []) }

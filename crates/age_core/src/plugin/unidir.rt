@@ -1,6 +1,6 @@
 //! Phases in which one side sends commands, and the other takes them.
 
-ghost use Rattle.std.specs.Prelude.{◌≡◌, ◌<◌, ◌≤◌, List, [], ◌∷◌, ◌++◌, map, Some, None, Result as Res, IfOk, IfSome, IsErrOf, OnErr, MatchOption};
+ghost use Rattle.std.specs.Prelude.{◌≡◌, ◌<◌, ◌≤◌, ◌⊎◌, List, [], ◌∷◌, ◌++◌, length, map, Some, None, Result as Res, IfOk, IfSome, IsErrOf, OnOk, OnErr, MatchOption};
 ghost use Rattle.std.specs.Option.{option_copied};
 ghost use Rattle.std.specs.Str.{bytes_eq};
 ghost use Rattle.std.specs.String.{string_bytes};
@@ -8,7 +8,7 @@ ghost use Rattle.age_core.specs.declared.format.Stanza.{Stanza as Held-Stanza};
 ghost use Rattle.age_core.specs.Outside.{Rose};
 ghost use Rattle.age_core.specs.Stanza.{Stanza as Stanza-spelled, IsFront, stanza_of};
 ghost use Rattle.age_core.specs.Front.{IsMalformed};
-ghost use Rattle.age_core.specs.Reading.{IsDone, NoneDone};
+ghost use Rattle.age_core.specs.Reading.{IsDone, NoneDone, StandsBeforeDone};
 ghost use Rattle.age_core.specs.Receiving.{Receives};
 ghost use Rattle.age_core.specs.Phases.{Commands, Answers, AnswersIfAsked, is_command, for_a, for_b, for_c, for_d, ComesTo, Ran};
 ghost use Rattle.age_core.specs.Tags.{commands_of};
@@ -225,6 +225,11 @@ impl<R: Source, W: Sink> Connection<R, W> {
             × Answers G.step on_b (for_b tags stanzas) answer.b
             × AnswersIfAsked H.step on_c tags.c (for_c tags stanzas) answer.c
             × AnswersIfAsked I.step on_d tags.d (for_d tags stanzas) answer.d) }
+        // Nothing was read, or at most 4095 bytes are held behind the `done`.
+        ensures behind { OnOk result (((source_of self.new ≡ source_of self.old) × ((held_by self.new).budget ≡ (held_by self.old).budget))
+            ⊎ (length (held_by self.new).bytes ≤ 4095)) }
+        // Where a whole phase is held, nothing is read.
+        ensures unread { (stanzas : List Stanza-spelled) → StandsBeforeDone (held_by self.old).bytes stanzas → source_of self.new ≡ source_of self.old }
 
         // Before a refusal there was no `done`, and what follows the stanzas that were taken is held.
         ensures refused { OnErr result ((stanzas : List Stanza-spelled) × NoneDone stanzas

@@ -1,4 +1,4 @@
-use Rattle.std.proofs.Common.{◌≡◌, [], ◌∷◌, ◌++◌, map, refl, sym, subst, ◌∙◌, arith}
+use Rattle.std.proofs.Common.{◌≡◌, [], ◌∷◌, ◌++◌, map, refl, sym, subst, ◌∙◌, inl}
 use Rattle.std.specs.Option.{option_copied}
 use Rattle.std.specs.String.{string_bytes}
 use Rattle.std.proofs.lemmas.List.{append-nil, map_push}
@@ -8,7 +8,7 @@ use Rattle.age_core.specs.Reading.{NoneDone}
 use Rattle.age_core.specs.Receiving.{Receives}
 use Rattle.age_core.specs.Connecting.{source_of, held_by}
 use Rattle.age_core.specs.Phases.{Commands, for_a, for_b, for_c, for_d}
-use Rattle.age_core.proofs.Receipts.{receives_none, receives_both, receives_less}
+use Rattle.age_core.proofs.Receipts.{receives_none, receives_both, receives_less, little_more, held_more, held_unread}
 use Rattle.age_core.proofs.Commands.{for_a-append, for_b-append, for_c-append, for_d-append, if_asked, on_err, err_as, same_err, none_done-push, not_done, is_done}
 use Rattle.age_core.proofs.plugin.connection.Connection.unidir_receive.Goals as goal
 
@@ -27,6 +27,8 @@ loop-running-init g c = record {
     ([], refl, (refl, c.new-3.ensures.items)),
     ([], refl, (refl, c.new-4.ensures.items)),
   );
+  behind = inl (refl, refl);
+  unread = λ stanzas stands. (refl, stanzas, stands);
   no_fault = refl;
   sink = refl;
 }
@@ -94,9 +96,26 @@ loop-running-preserved g c =
         rw (for_c-append tags taken.0 one) (c.in_ok-running.ensures.c c.args.on_c (for_c tags taken.0) taken.5),
         rw (for_d-append tags taken.0 one) (c.in_ok-running.ensures.d c.args.on_d (for_d tags taken.0) taken.6),
       );
+      behind = little_more (held_by c.args.self.now) (held_by c.loop-running.self) (held_by c.receive.new.self) (source_of c.args.self.now) (source_of c.loop-running.self) (source_of c.receive.new.self) (left (source_of c.loop-running.self)) (left (source_of c.receive.new.self)) (stanza_of stanza) inv.behind c.in_ok-stanza.ensures.given c.in_ok-stanza.ensures.behind;
+      unread = held_more (held_by c.args.self.now) (held_by c.loop-running.self) (held_by c.receive.new.self) (source_of c.args.self.now) (source_of c.loop-running.self) (source_of c.receive.new.self) (left (source_of c.loop-running.self)) (left (source_of c.receive.new.self)) (stanza_of stanza) inv.unread c.in_ok-stanza.ensures.unread c.in_ok-stanza.ensures.unpaid c.in_ok-stanza.ensures.given (not_done (string_bytes stanza.tag) (sym c.has_tag.ensures ∙ c.if-has_tag.false));
       no_fault = c.in_ok-stanza.ensures.no_fault (λ none. absurd cc) ∙ inv.no_fault;
       sink = c.in_ok-stanza.ensures.sink ∙ inv.sink;
     }
 
 pub returns-in_err-stanza-clause-no_fault : goal.returns-in_err-stanza-clause-no_fault
 returns-in_err-stanza-clause-no_fault g c other = c.in_err-stanza.ensures.no_fault (λ is. other (err_as c.from_residual.result c.in_err-stanza.field-0.0 ReadFault c.from_residual.ensures.1 (same_err _ _ is))) ∙ c.loop-running.invariant.no_fault
+
+pub returns-then-has_tag-clause-behind : goal.returns-then-has_tag-clause-behind
+returns-then-has_tag-clause-behind g c =
+    let left = g.R.Source.left in
+    let stanza = c.in_ok-stanza.stanza in
+    little_more (held_by c.args.self.now) (held_by c.loop-running.self) (held_by c.receive.new.self) (source_of c.args.self.now) (source_of c.loop-running.self) (source_of c.receive.new.self) (left (source_of c.loop-running.self)) (left (source_of c.receive.new.self)) (stanza_of stanza) c.loop-running.invariant.behind c.in_ok-stanza.ensures.given c.in_ok-stanza.ensures.behind
+
+pub returns-in_err-stanza-clause-unread : goal.returns-in_err-stanza-clause-unread
+returns-in_err-stanza-clause-unread g c = held_unread (held_by c.args.self.now) (held_by c.loop-running.self) (source_of c.args.self.now) (source_of c.loop-running.self) (source_of c.receive.new.self) c.loop-running.invariant.unread c.receive.ensures.unread
+
+pub returns-then-has_tag-clause-unread : goal.returns-then-has_tag-clause-unread
+returns-then-has_tag-clause-unread g c = held_unread (held_by c.args.self.now) (held_by c.loop-running.self) (source_of c.args.self.now) (source_of c.loop-running.self) (source_of c.receive.new.self) c.loop-running.invariant.unread c.receive.ensures.unread
+
+pub returns-in_err-running-clause-unread : goal.returns-in_err-running-clause-unread
+returns-in_err-running-clause-unread g c = held_unread (held_by c.args.self.now) (held_by c.loop-running.self) (source_of c.args.self.now) (source_of c.loop-running.self) (source_of c.receive.new.self) c.loop-running.invariant.unread c.receive.ensures.unread

@@ -1,4 +1,4 @@
-use Rattle.std.proofs.Common.{◌≡◌, ◌≤◌, ◌+◌, List, length, map}
+use Rattle.std.proofs.Common.{◌≡◌, ◌+◌, List, length, map}
 use Rattle.std.specs.Option.{option_copied}
 use Rattle.age_core.specs.declared.format.Stanza.{Stanza}
 use Rattle.age_core.specs.Stanza.{stanza_of}
@@ -6,6 +6,7 @@ use Rattle.age_core.specs.Reading.{NoneDone}
 use Rattle.age_core.specs.Receiving.{Receives}
 use Rattle.age_core.specs.Connecting.{source_of, sink_of, held_by}
 use Rattle.age_core.specs.Phases.{Commands, for_a, for_b, for_c, for_d, Ran}
+use Rattle.age_core.proofs.Receipts.{Little, StillHeld}
 use Rattle.age_core.proofs.plugin.connection.Connection.unidir_receive.Given as goal
 
 -- the stanzas so far went to the commands, and none of them was a `done`
@@ -24,6 +25,8 @@ invariant-loop-running g l =
           × Ran (goal.G-step g) l.fn.on_b (for_b tags stanzas) l.running.b l.running.on_b
           × Ran (goal.H-step g) l.fn.on_c (for_c tags stanzas) l.running.c l.running.on_c
           × Ran (goal.I-step g) l.fn.on_d (for_d tags stanzas) l.running.d l.running.on_d;
+      behind : Little (held_by l.fn.self) (held_by l.self) (source_of l.fn.self) (source_of l.self);
+      unread : StillHeld (held_by l.fn.self) (held_by l.self) (source_of l.fn.self) (source_of l.self);
       no_fault : g.R.Source.faults (source_of l.self) ≡ g.R.Source.faults (source_of l.fn.self);
       sink : sink_of l.self ≡ sink_of l.fn.self;
     }

@@ -1,7 +1,7 @@
 use Rattle.std.proofs.Common.{◌≡◌, []}
 use Rattle.age_core.specs.Stanza.{IsFront}
 use Rattle.age_core.specs.Receiving.{Receives}
-use Rattle.age_core.proofs.Receipts.{LastPiece}
+use Rattle.age_core.proofs.Receipts.{Last}
 use Rattle.age_core.proofs.plugin.reader.StanzaReader.receive_from.Given as goal
 
 -- what was read so far is held, and it was read behind fronts alone
@@ -11,7 +11,7 @@ invariant-loop-stanza g l =
     record {
       received : Receives l.fn.self l.self (left l.fn.source) (left l.source) [];
       unread : (IsFront l.fn.self.bytes → ⊥) → (l.self ≡ l.fn.self) × (l.source ≡ l.fn.source);
-      last : LastPiece l.fn.self.bytes l.self.bytes;
+      last : Last l.fn.self l.self l.fn.source l.source;
       no_fault : g.S.Source.faults l.source ≡ g.S.Source.faults l.fn.source;
     }
 
