@@ -1,6 +1,7 @@
 -- One answer more of a command, and one stanza more of a phase.
 use Rattle.std.proofs.Common.{◌≡◌, ◌≢◌, ℕ, Bool, true, false, not, List, [], ◌∷◌, ◌++◌, filter, Option, Some, None, Result, Ok, Err, refl, sym, ap, subst, ◌∙◌}
 use Rattle.std.specs.Prelude.{Vec, MatchOption, OnErr, IsErrAnd, codes}
+use Rattle.std.specs.List.{AllByRecursion}
 use Rattle.std.specs.Str.{bytes_eq}
 use Rattle.std.proofs.lemmas.Slice.Eq.{bytes_eq-Decides}
 use Rattle.std.proofs.lemmas.List.Elements.{filter-append}
@@ -8,7 +9,7 @@ use Rattle.std.proofs.lemmas.List.{append-nil}
 use Rattle.age_core.specs.declared.format.Stanza.{Stanza}
 use Rattle.age_core.specs.Stanza.{Stanza as Spelled}
 use Rattle.age_core.specs.Reading.{NoneDone}
-use Rattle.age_core.specs.Phases.{Commands, is_command, for_a, for_b, for_c, for_d, Calls, values, errors, ComesTo, Ran, AnswersIfAsked}
+use Rattle.age_core.specs.Phases.{Commands, is_command, for_a, for_b, for_c, for_d, Calls, values, errors, ComesTo, Ran, MayTake, AnswersIfAsked, without_command}
 
 -- ---- answers
 
@@ -184,6 +185,20 @@ module _ (tags : Commands) (ss ts : List Stanza) where
       let n_b = λ (s : Stanza). not (is_command (Some tags.b) s) in
       let n_c = λ (s : Stanza). not (is_command tags.c s) in
       ap (filter (is_command tags.d)) (thrice_both n_a n_b n_c ss ts) ∙ filter_both (is_command tags.d) (filter n_c (filter n_b (filter n_a ss))) (filter n_c (filter n_b (filter n_a ts)))
+
+-- what goes to a command has its tag
+filter_all_at : (p : Stanza → Bool) (x : Stanza) (xs : List Stanza) (b : Bool) → p x ≡ b → AllByRecursion (λ s. p s ≡ true) (filter p xs) → AllByRecursion (λ s. p s ≡ true) (filter p (x ∷ xs))
+filter_all_at p x xs true e h = rw e (e, h)
+filter_all_at p x xs false e h = rw e h
+
+filter_all : (p : Stanza → Bool) (xs : List Stanza) → AllByRecursion (λ s. p s ≡ true) (filter p xs)
+filter_all p [] = tt
+filter_all p (x ∷ xs) = filter_all_at p x xs (p x) refl (filter_all p xs)
+
+-- so its closure may be called at one stanza more
+pub may_next : {F A E Z : Type 0} (pre : F → Stanza → Type 0) (step : F → Stanza → Result A E → F → Type 0) (command : Option (List ℕ)) (f : F) (xs : List Stanza) (outcome : Result (Vec A Z) (Vec E Z)) (now : F) (next : Stanza)
+    → MayTake pre step command f → Ran step f (filter (is_command command) xs) outcome now → is_command command next ≡ true → pre now next
+may_next pre step command f xs outcome now next may ran is = may (filter (is_command command) xs) ran.0 now next ran.1 (is, filter_all (is_command command) xs)
 
 -- a command that may be left out
 pub if_asked : {F A E Z : Type 0} (step : F → Stanza → Result A E → F → Type 0) (f : F) (command : Option (List ℕ)) (ss : List Stanza) (outcome : Result (Vec A Z) (Vec E Z)) (last : F) (answer : Option (Result (Vec A Z) (Vec E Z)))

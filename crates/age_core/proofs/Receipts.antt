@@ -284,16 +284,18 @@ phase_behind text more s [] is stanza other stands =
     absurd (other (subst IsDone (sym first.0) stands.last_is_done))
 phase_behind text more s (t ∷ ts) is stanza other stands =
     let rest : List ℕ = flat_map spelling ts ++ (spelling stands.last ++ stands.rest) in
-    let first = same_stanza s t more rest stanza stands.each.0 (sym is ∙ (stands.whole ∙ append_assoc (spelling t) (flat_map spelling ts) (spelling stands.last ++ stands.rest))) in
-    (ts, record {
-      last = stands.last;
-      rest = stands.rest;
-      whole = first.1;
-      each = stands.each.1;
-      none_done = stands.none_done.1;
-      last_is_stanza = stands.last_is_stanza;
-      last_is_done = stands.last_is_done;
-    })
+    let first = same_stanza s t more rest stanza stands.each.0 (sym is ∙ (stands.whole ∙ append_assoc (spelling t) (flat_map spelling ts) (spelling stands.last ++ stands.rest))) in (
+      ts,
+      record {
+        last = stands.last;
+        rest = stands.rest;
+        whole = first.1;
+        each = stands.each.1;
+        none_done = stands.none_done.1;
+        last_is_stanza = stands.last_is_stanza;
+        last_is_done = stands.last_is_done;
+      },
+    )
 
 -- where a whole phase was held first, nothing was read, and a whole phase is held
 abbrev pub StillHeld : {S : Type 0} → Held → Held → S → S → Type 0

@@ -1,5 +1,6 @@
 -- What a phase gives to its commands, and what they come to.
-use Rattle.std.specs.Prelude.{◌≡◌, ◌≢◌, ℕ, Bool, false, not, List, [], ◌∷◌, filter, Option, Some, None, Result, Ok, Err, MatchResult, Vec}
+use Rattle.std.specs.Prelude.{◌≡◌, ◌≢◌, ℕ, Bool, true, false, not, List, [], ◌∷◌, filter, Option, Some, None, Result, Ok, Err, MatchResult, Vec}
+use Rattle.std.specs.List.{AllByRecursion}
 use Rattle.std.specs.Str.{bytes_eq}
 use Rattle.std.specs.String.{string_bytes}
 use Rattle.age_core.specs.declared.format.Stanza.{Stanza}
@@ -42,6 +43,12 @@ Calls step f [] [] last = f ≡ last
 Calls step f (s ∷ ss) (a ∷ more) last = (next : _) × step f s a next × Calls step next ss more last
 Calls step f [] (a ∷ more) last = ⊥
 Calls step f (s ∷ ss) [] last = ⊥
+
+-- A closure may be called at any stanza of its command, in each state in which calls at such stanzas
+-- leave it; that of a command that was left out need not be.
+abbrev pub MayTake : {F A : Type 0} → (F → Stanza → Type 0) → (F → Stanza → A → F → Type 0) → Option (List ℕ) → F → Type 0
+MayTake pre step command f = (taken : List Stanza) (answers : List _) (now : _) (next : Stanza) → Calls step f taken answers now
+    → AllByRecursion (λ s. is_command command s ≡ true) (next ∷ taken) → pre now next
 
 -- the values among answers, in order
 abbrev pub values : {A E : Type 0} → List (Result A E) → List A

@@ -1,6 +1,6 @@
 //! Phases in which one side sends commands, and the other takes them.
 
-ghost use Rattle.std.specs.Prelude.{◌≡◌, ◌<◌, ◌≤◌, ◌⊎◌, List, [], ◌∷◌, ◌++◌, length, map, Some, None, Result as Res, IfOk, IfSome, IsErrOf, OnOk, OnErr, MatchOption};
+ghost use Rattle.std.specs.Prelude.{◌≡◌, ◌<◌, ◌≤◌, ◌⊎◌, List, [], ◌∷◌, ◌++◌, length, map, Some, None, true, Result as Res, IfOk, IfSome, IsErrOf, OnOk, OnErr, MatchOption};
 ghost use Rattle.std.specs.Option.{option_copied};
 ghost use Rattle.std.specs.Str.{bytes_eq};
 ghost use Rattle.std.specs.String.{string_bytes};
@@ -10,7 +10,7 @@ ghost use Rattle.age_core.specs.Stanza.{Stanza as Stanza-spelled, IsFront, stanz
 ghost use Rattle.age_core.specs.Front.{IsMalformed};
 ghost use Rattle.age_core.specs.Reading.{IsDone, NoneDone, StandsBeforeDone};
 ghost use Rattle.age_core.specs.Receiving.{Receives};
-ghost use Rattle.age_core.specs.Phases.{Commands, Answers, AnswersIfAsked, is_command, for_a, for_b, for_c, for_d, ComesTo, Ran};
+ghost use Rattle.age_core.specs.Phases.{Commands, Answers, AnswersIfAsked, is_command, for_a, for_b, for_c, for_d, ComesTo, MayTake, Ran};
 ghost use Rattle.age_core.specs.Tags.{commands_of};
 
 use super::{Connection, PhaseError};
@@ -70,9 +70,8 @@ fn give<T: Drop, E: Drop, F: FnMut(Stanza) -> Result<T, E>>(
     outcome: Outcome<T, E>,
     stanza: Stanza,
 ) -> Result<Outcome<T, E>, AllocError>
-    requires { F.IsAlwaysCallable on.old }
-    ensures callable { F.IsAlwaysCallable on.new }
-    ensures ran { IfOk result (λ now. (f : F) (stanzas : List Held-Stanza) → Ran F.step f stanzas outcome on.old → Ran F.step f (stanzas ++ stanza ∷ []) now on.new) }
+    requires { F.pre on.old stanza }
+    ensures { IfOk result (λ now. (f : F) (stanzas : List Held-Stanza) → Ran F.step f stanzas outcome on.old → Ran F.step f (stanzas ++ stanza ∷ []) now on.new) }
 {
     let answer = on(stanza);
     add(alloc, outcome, answer)
@@ -129,14 +128,10 @@ where
     G: FnMut(Stanza) -> Result<B, E> + Drop,
     H: FnMut(Stanza) -> Result<C, E> + Drop,
     I: FnMut(Stanza) -> Result<D, E> + Drop,
-    requires on_a { F.IsAlwaysCallable running.on_a }
-    requires on_b { G.IsAlwaysCallable running.on_b }
-    requires on_c { H.IsAlwaysCallable running.on_c }
-    requires on_d { I.IsAlwaysCallable running.on_d }
-    ensures on_a { IfOk result (λ now. F.IsAlwaysCallable now.on_a) }
-    ensures on_b { IfOk result (λ now. G.IsAlwaysCallable now.on_b) }
-    ensures on_c { IfOk result (λ now. H.IsAlwaysCallable now.on_c) }
-    ensures on_d { IfOk result (λ now. I.IsAlwaysCallable now.on_d) }
+    requires on_a { is_command (Some (commands_of tags).a) stanza ≡ true → F.pre running.on_a stanza }
+    requires on_b { is_command (Some (commands_of tags).b) stanza ≡ true → G.pre running.on_b stanza }
+    requires on_c { is_command (commands_of tags).c stanza ≡ true → H.pre running.on_c stanza }
+    requires on_d { is_command (commands_of tags).d stanza ≡ true → I.pre running.on_d stanza }
     ensures a { IfOk result (λ now. (f : F) (stanzas : List Held-Stanza) → Ran F.step f stanzas running.a running.on_a
         → Ran F.step f (stanzas ++ for_a (commands_of tags.entry) (stanza ∷ [])) now.a now.on_a) }
     ensures b { IfOk result (λ now. (g : G) (stanzas : List Held-Stanza) → Ran G.step g stanzas running.b running.on_b
@@ -212,10 +207,11 @@ impl<R: Source, W: Sink> Connection<R, W> {
         G: FnMut(Stanza) -> Result<B, E> + Drop,
         H: FnMut(Stanza) -> Result<C, E> + Drop,
         I: FnMut(Stanza) -> Result<D, E> + Drop,
-        requires on_a { F.IsAlwaysCallable on_a }
-        requires on_b { G.IsAlwaysCallable on_b }
-        requires on_c { H.IsAlwaysCallable on_c }
-        requires on_d { I.IsAlwaysCallable on_d }
+        // Each closure is called at stanzas of its command alone, and that of a command of none not at all.
+        requires on_a { MayTake F.pre F.step (Some command_a.now) on_a }
+        requires on_b { MayTake G.pre G.step (Some command_b.now) on_b }
+        requires on_c { MayTake H.pre H.step (option_copied command_c) on_c }
+        requires on_d { MayTake I.pre I.step (option_copied command_d) on_d }
         // The stanzas before the first `done` went to the commands, and what follows it stays held.
         ensures done { let tags : Commands = record { a = command_a.now; b = command_b.now; c = option_copied command_c.entry; d = option_copied command_d.entry } in
             IfOk result (λ answer. (stanzas : List Held-Stanza) × (last : Held-Stanza)

@@ -1,4 +1,4 @@
-use Rattle.std.proofs.Common.{◌≡◌, [], ◌∷◌, ◌++◌, map, refl, sym, subst, ◌∙◌, inl}
+use Rattle.std.proofs.Common.{◌≡◌, Some, [], ◌∷◌, ◌++◌, map, refl, sym, subst, ◌∙◌, inl}
 use Rattle.std.specs.Option.{option_copied}
 use Rattle.std.specs.String.{string_bytes}
 use Rattle.std.proofs.lemmas.List.{append-nil, map_push}
@@ -7,17 +7,13 @@ use Rattle.age_core.specs.Stanza.{stanza_of}
 use Rattle.age_core.specs.Reading.{NoneDone}
 use Rattle.age_core.specs.Receiving.{Receives}
 use Rattle.age_core.specs.Connecting.{source_of, held_by}
-use Rattle.age_core.specs.Phases.{Commands, for_a, for_b, for_c, for_d}
+use Rattle.age_core.specs.Phases.{Commands, for_a, for_b, for_c, for_d, without_command}
 use Rattle.age_core.proofs.Receipts.{receives_none, receives_both, receives_less, little_more, held_more, held_unread}
-use Rattle.age_core.proofs.Commands.{for_a-append, for_b-append, for_c-append, for_d-append, if_asked, on_err, err_as, same_err, none_done-push, not_done, is_done}
+use Rattle.age_core.proofs.Commands.{for_a-append, for_b-append, for_c-append, for_d-append, if_asked, may_next, on_err, err_as, same_err, none_done-push, not_done, is_done}
 use Rattle.age_core.proofs.plugin.connection.Connection.unidir_receive.Goals as goal
 
 pub loop-running-init : goal.loop-running-init
 loop-running-init g c = record {
-  on_a = c.requires.on_a;
-  on_b = c.requires.on_b;
-  on_c = c.requires.on_c;
-  on_d = c.requires.on_d;
   taken = (
     [],
     tt,
@@ -83,10 +79,6 @@ loop-running-preserved g c =
     let pushed : map stanza_of (taken.0 ++ one) ≡ map stanza_of taken.0 ++ stanza_of stanza ∷ [] = map_push stanza_of taken.0 stanza in
     let both = receives_both (held_by c.args.self.now) (held_by c.loop-running.self) (held_by c.receive.new.self) (left (source_of c.args.self.now)) (left (source_of c.loop-running.self)) (left (source_of c.receive.new.self)) (map stanza_of taken.0) (stanza_of stanza ∷ []) taken.2 c.in_ok-stanza.ensures.given in
     record {
-      on_a = c.in_ok-running.ensures.on_a;
-      on_b = c.in_ok-running.ensures.on_b;
-      on_c = c.in_ok-running.ensures.on_c;
-      on_d = c.in_ok-running.ensures.on_d;
       taken = (
         taken.0 ++ one,
         subst NoneDone (sym pushed) (none_done-push (map stanza_of taken.0) (stanza_of stanza) taken.1 (not_done (string_bytes stanza.tag) (sym c.has_tag.ensures ∙ c.if-has_tag.false))),
@@ -119,3 +111,27 @@ returns-then-has_tag-clause-unread g c = held_unread (held_by c.args.self.now) (
 
 pub returns-in_err-running-clause-unread : goal.returns-in_err-running-clause-unread
 returns-in_err-running-clause-unread g c = held_unread (held_by c.args.self.now) (held_by c.loop-running.self) (source_of c.args.self.now) (source_of c.loop-running.self) (source_of c.receive.new.self) c.loop-running.invariant.unread c.receive.ensures.unread
+
+pub take-requires-clause-on_a : goal.take-requires-clause-on_a
+take-requires-clause-on_a g c =
+    let tags : Commands = record { a = c.args.command_a.now; b = c.args.command_b.now; c = option_copied c.args.command_c; d = option_copied c.args.command_d } in
+    let taken = c.loop-running.invariant.taken in
+    may_next _ _ (Some tags.a) c.args.on_a (taken.0) c.loop-running.running.a c.loop-running.running.on_a c.in_ok-stanza.stanza c.requires.on_a taken.3
+
+pub take-requires-clause-on_b : goal.take-requires-clause-on_b
+take-requires-clause-on_b g c =
+    let tags : Commands = record { a = c.args.command_a.now; b = c.args.command_b.now; c = option_copied c.args.command_c; d = option_copied c.args.command_d } in
+    let taken = c.loop-running.invariant.taken in
+    may_next _ _ (Some tags.b) c.args.on_b (without_command (Some tags.a) taken.0) c.loop-running.running.b c.loop-running.running.on_b c.in_ok-stanza.stanza c.requires.on_b taken.4
+
+pub take-requires-clause-on_c : goal.take-requires-clause-on_c
+take-requires-clause-on_c g c =
+    let tags : Commands = record { a = c.args.command_a.now; b = c.args.command_b.now; c = option_copied c.args.command_c; d = option_copied c.args.command_d } in
+    let taken = c.loop-running.invariant.taken in
+    may_next _ _ (tags.c) c.args.on_c (without_command (Some tags.b) (without_command (Some tags.a) taken.0)) c.loop-running.running.c c.loop-running.running.on_c c.in_ok-stanza.stanza c.requires.on_c taken.5
+
+pub take-requires-clause-on_d : goal.take-requires-clause-on_d
+take-requires-clause-on_d g c =
+    let tags : Commands = record { a = c.args.command_a.now; b = c.args.command_b.now; c = option_copied c.args.command_c; d = option_copied c.args.command_d } in
+    let taken = c.loop-running.invariant.taken in
+    may_next _ _ (tags.d) c.args.on_d (without_command tags.c (without_command (Some tags.b) (without_command (Some tags.a) taken.0))) c.loop-running.running.d c.loop-running.running.on_d c.in_ok-stanza.stanza c.requires.on_d taken.6

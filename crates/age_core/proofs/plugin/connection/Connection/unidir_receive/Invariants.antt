@@ -15,10 +15,6 @@ invariant-loop-running g l =
     let left = g.R.Source.left in
     let tags : Commands = record { a = l.command_a; b = l.command_b; c = option_copied l.command_c; d = option_copied l.command_d } in
     record {
-      on_a : goal.F-IsAlwaysCallable g l.running.on_a;
-      on_b : goal.G-IsAlwaysCallable g l.running.on_b;
-      on_c : goal.H-IsAlwaysCallable g l.running.on_c;
-      on_d : goal.I-IsAlwaysCallable g l.running.on_d;
       taken : (stanzas : List Stanza) × NoneDone (map stanza_of stanzas)
           × Receives (held_by l.fn.self) (held_by l.self) (left (source_of l.fn.self)) (left (source_of l.self)) (map stanza_of stanzas)
           × Ran (goal.F-step g) l.fn.on_a (for_a tags stanzas) l.running.a l.running.on_a
