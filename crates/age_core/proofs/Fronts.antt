@@ -6,34 +6,34 @@ use Rattle.std.proofs.lemmas.Bool.{eqb-true, leb-true}
 use Rattle.std.proofs.lemmas.Bool.Decides.{nat_tests}
 use Rattle.std.proofs.lemmas.List.{append-nil, length_push}
 use Rattle.std.proofs.lemmas.List.Concat.{flat_map-append}
-use Rattle.age_core.specs.declared.front.Place.{Place}
-use Rattle.age_core.specs.declared.front.Place.TheVariants.{Start, Dash, Arrow, Gap, Word, Line}
-use Rattle.age_core.specs.declared.front.Step.{Step}
-use Rattle.age_core.specs.declared.front.Step.TheVariants.{To, End, Bad}
+use Rattle.age_core.specs.declared.scan.Place.{Place}
+use Rattle.age_core.specs.declared.scan.Place.TheVariants.{Start, Dash, Arrow, Gap, Word, Line}
+use Rattle.age_core.specs.declared.scan.Step.{Step}
+use Rattle.age_core.specs.declared.scan.Step.TheVariants.{To, End, Bad}
 use Rattle.age_core.specs.Stanza.{IsFront, IsVisible, IsArbitraryString}
 use Rattle.age_core.specs.Front.{IsCharacter, IsFrontByCases}
-use Rattle.age_core.specs.Scan.{is_visible}
-use Rattle.age_core.specs.Sight.{is_character, Sight, At, Whole, Broken, sight}
+use Rattle.age_core.specs.private.Parse.{is_visible}
+use Rattle.age_core.specs.private.Scan.{is_character, ScanEnd, At, Whole, Broken, scan}
 use Rattle.age_core.proofs.Words.{All-push, passes_visible, before_space, behind_space, joined, joined-push}
-use Rattle.age_core.proofs.Sights.{passes_character, whole_no_front, broken_no_front}
+use Rattle.age_core.proofs.Scans.{passes_character, whole_no_front, broken_no_front}
 
 -- ---- which step a scan took
 
 -- a scan that came to the end took this step
-goes_on : (b : Bool) (next other : Step) (bs : List ℕ) (q : Place) → sight (cond b next other) bs ≡ At q
-    → ((b ≡ true) × (sight next bs ≡ At q)) ⊎ ((b ≡ false) × (sight other bs ≡ At q))
+goes_on : (b : Bool) (next other : Step) (bs : List ℕ) (q : Place) → scan (cond b next other) bs ≡ At q
+    → ((b ≡ true) × (scan next bs ≡ At q)) ⊎ ((b ≡ false) × (scan other bs ≡ At q))
 goes_on true next other bs q e = inl (refl, e)
 goes_on false next other bs q e = inr (refl, e)
 
-not_bad : (bs : List ℕ) (q : Place) → sight Bad bs ≡ At q → ⊥
-unfolding sight
+not_bad : (bs : List ℕ) (q : Place) → scan Bad bs ≡ At q → ⊥
+unfolding scan
 not_bad bs q e = cc
 
-not_ended : (bs : List ℕ) (q : Place) → sight End bs ≡ At q → ⊥
-unfolding sight
+not_ended : (bs : List ℕ) (q : Place) → scan End bs ≡ At q → ⊥
+unfolding scan
 not_ended bs q e = cc
 
-only : (b : Bool) (next : Place) (bs : List ℕ) (q : Place) → sight (cond b (To next) Bad) bs ≡ At q → (b ≡ true) × (sight (To next) bs ≡ At q)
+only : (b : Bool) (next : Place) (bs : List ℕ) (q : Place) → scan (cond b (To next) Bad) bs ≡ At q → (b ≡ true) × (scan (To next) bs ≡ At q)
 only b next bs q e = elim (goes_on b (To next) Bad bs q e) [
   | inl passed ↦ passed
   | inr failed ↦ absurd (not_bad bs q failed.1)
@@ -66,8 +66,8 @@ lines_part : (text other : List ℕ) → text ≡ other → LinesPart other → 
 lines_part text other e part = record { lines = part.lines; last = part.last; text_is = e ∙ part.text_is; lines_are = part.lines_are; last_is = part.last_is }
 
 line_front : (text line : List ℕ) (lines : List (List ℕ)) (n : ℕ) (q : Place) → n ≡ length line → n ≤ 64 → AllByRecursion IsCharacter line → AllByRecursion IsFullLine lines
-    → sight (To (Line n)) text ≡ At q → LinesPart (flat_map before_feed lines ++ (line ++ text))
-unfolding sight
+    → scan (To (Line n)) text ≡ At q → LinesPart (flat_map before_feed lines ++ (line ++ text))
+unfolding scan
 line_front [] line lines n q len within all full e = record {
   lines = lines;
   last = line;
@@ -139,8 +139,8 @@ not_empty (x ∷ xs) b e = cc
 
 -- behind a byte of a word
 word_front : (text word : List ℕ) (words : List (List ℕ)) (q : Place) → IsArbitraryString word → AllByRecursion IsArbitraryString words
-    → sight (To Word) text ≡ At q → IsFrontByCases (marked (flat_map before_space words ++ (word ++ text)))
-unfolding sight
+    → scan (To Word) text ≡ At q → IsFrontByCases (marked (flat_map before_space words ++ (word ++ text)))
+unfolding scan
 word_front [] word words q h all e = by_cases _ _ (ap (λ (t : List ℕ). marked (flat_map before_space words ++ t)) (append-nil word)) (header_part words word all h.1)
 word_front (b ∷ []) word words q h all e =
     elim (goes_on (is_visible b) _ _ [] q e) [
@@ -173,25 +173,25 @@ word_front (b ∷ c ∷ bs) word words q h all e =
       ]
     ]
 
-gap_front : (text : List ℕ) (q : Place) → sight (To Gap) text ≡ At q → IsFrontByCases (marked text)
-unfolding sight
+gap_front : (text : List ℕ) (q : Place) → scan (To Gap) text ≡ At q → IsFrontByCases (marked text)
+unfolding scan
 gap_front [] q e = inl ([], refl)
 gap_front (b ∷ bs) q e =
     let first = only (is_visible b) Word bs q e in
     word_front bs (b ∷ []) [] q ((λ nil. absurd cc), (passes_visible b first.0, tt)) tt first.1
 
 -- the three cases
-pub sight_front : (text : List ℕ) (q : Place) → sight (To Start) text ≡ At q → IsFrontByCases text
-unfolding sight
-sight_front [] q e = inl (codes "-> ", refl)
-sight_front (a ∷ []) q e =
+pub scan_front : (text : List ℕ) (q : Place) → scan (To Start) text ≡ At q → IsFrontByCases text
+unfolding scan
+scan_front [] q e = inl (codes "-> ", refl)
+scan_front (a ∷ []) q e =
     let first = only (eqb a 45) Dash [] q e in
     rw (eqb-true a 45 first.0) (inl (62 ∷ 32 ∷ [], refl))
-sight_front (a ∷ b ∷ []) q e =
+scan_front (a ∷ b ∷ []) q e =
     let first = only (eqb a 45) Dash (b ∷ []) q e in
     let second = only (eqb b 62) Arrow [] q first.1 in
     rw (eqb-true a 45 first.0, eqb-true b 62 second.0) (inl (32 ∷ [], refl))
-sight_front (a ∷ b ∷ c ∷ text) q e =
+scan_front (a ∷ b ∷ c ∷ text) q e =
     let first = only (eqb a 45) Dash (b ∷ c ∷ text) q e in
     let second = only (eqb b 62) Arrow (c ∷ text) q first.1 in
     let third = only (eqb c 32) Gap text q second.1 in
@@ -199,12 +199,12 @@ sight_front (a ∷ b ∷ c ∷ text) q e =
 
 -- ---- a front is one of the three cases
 
-pub front_seen : (text : List ℕ) (found : Sight) → sight (To Start) text ≡ found → IsFront text → (q : Place) × (sight (To Start) text ≡ At q)
+pub front_seen : (text : List ℕ) (found : ScanEnd) → scan (To Start) text ≡ found → IsFront text → (q : Place) × (scan (To Start) text ≡ At q)
 front_seen text (At q) e front = (q, e)
 front_seen text (Whole rest) e front = absurd (whole_no_front text rest e front)
 front_seen text Broken e front = absurd (broken_no_front text e front)
 
 pub front_by_cases : (text : List ℕ) → IsFront text → IsFrontByCases text
 front_by_cases text front =
-    let seen = front_seen text (sight (To Start) text) refl front in
-    sight_front text seen.0 seen.1
+    let seen = front_seen text (scan (To Start) text) refl front in
+    scan_front text seen.0 seen.1

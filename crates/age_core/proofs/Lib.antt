@@ -4,7 +4,7 @@ pub mod Lines
 pub mod Stanzas
 pub mod Readings
 pub mod Steps
-pub mod Sights
+pub mod Scans
 pub mod Fronts
 pub mod Completions
 pub mod Receipts

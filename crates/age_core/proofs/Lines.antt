@@ -13,7 +13,7 @@ use Rattle.base64.proofs.RoundTrip.{length-encode_symbols}
 use Rattle.base64.proofs.EngineFacts.{decode_of-encode_of, decode_of_strict}
 use Rattle.age_core.specs.Stanza.{IsBytes, alphabet, base64, lines_of, body_lines}
 use Rattle.base64.specs.declared.engine.general_purpose.GeneralPurpose.{GeneralPurpose}
-use Rattle.age_core.specs.Scan.{IsLineEngine, lines_from}
+use Rattle.age_core.specs.private.Parse.{IsLineEngine, lines_from}
 use Rattle.age_core.proofs.Cases.{chosen, some_parts, IsBytes-rest, IsBytes-push, IsBytes-append_right}
 
 result_ok_some : {A E : Type 0} (r : Result A E) (x : A) → result_ok r ≡ Some x → r ≡ Ok x

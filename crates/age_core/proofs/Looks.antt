@@ -3,28 +3,28 @@ use Rattle.std.proofs.Common.{◌≡◌, ℕ, ◌+◌, ◌-◌, ◌≤◌, List,
 use Rattle.std.proofs.lemmas.List.{length-append, take-append-drop}
 use Rattle.std.proofs.lemmas.List.Prefix.{end_rest}
 use Rattle.base64.specs.declared.engine.general_purpose.GeneralPurpose.{GeneralPurpose}
-use Rattle.age_core.specs.declared.front.Place.{Place}
-use Rattle.age_core.specs.declared.front.Place.TheVariants.{Start}
-use Rattle.age_core.specs.declared.front.Step.TheVariants.{To}
+use Rattle.age_core.specs.declared.scan.Place.{Place}
+use Rattle.age_core.specs.declared.scan.Place.TheVariants.{Start}
+use Rattle.age_core.specs.declared.scan.Step.TheVariants.{To}
 use Rattle.age_core.specs.Stanza.{IsFront}
 use Rattle.age_core.specs.Front.{IsMalformed}
-use Rattle.age_core.specs.Scan.{IsLineEngine, stanza_read}
-use Rattle.age_core.specs.Sight.{Whole, Broken, sight, IsSeen}
+use Rattle.age_core.specs.private.Parse.{IsLineEngine, stanza_read}
+use Rattle.age_core.specs.private.Scan.{Whole, Broken, scan, IsScannedTo}
 use Rattle.age_core.proofs.Stanzas.{none_begins}
-use Rattle.age_core.proofs.Sights.{seen_all, broken_no_front, broken_begins_none, whole_no_front}
-use Rattle.age_core.proofs.Fronts.{sight_front}
+use Rattle.age_core.proofs.Scans.{seen_all, broken_no_front, broken_begins_none, whole_no_front}
+use Rattle.age_core.proofs.Fronts.{scan_front}
 use Rattle.age_core.proofs.Completions.{cases_front}
 
 -- all of it was scanned
-pub scanned_front : (text : List ℕ) (seen : ℕ) (place : Place) → IsSeen text seen place → seen ≡ length text → IsFront text
-scanned_front text seen place is all = cases_front text (sight_front text place (seen_all text seen place is all))
+pub scanned_front : (text : List ℕ) (seen : ℕ) (place : Place) → IsScannedTo text seen place → seen ≡ length text → IsFront text
+scanned_front text seen place is all = cases_front text (scan_front text place (seen_all text seen place is all))
 
 -- a byte is none of a stanza
-pub scanned_broken : (text : List ℕ) → sight (To Start) text ≡ Broken → IsMalformed text
+pub scanned_broken : (text : List ℕ) → scan (To Start) text ≡ Broken → IsMalformed text
 scanned_broken text e = record { no_front = broken_no_front text e; begins_none = broken_begins_none text e }
 
 -- the end of a stanza was found, and it is none
-pub scanned_none : (engine : GeneralPurpose) (text rest : List ℕ) → IsLineEngine engine → sight (To Start) text ≡ Whole rest → stanza_read engine text ≡ None → IsMalformed text
+pub scanned_none : (engine : GeneralPurpose) (text rest : List ℕ) → IsLineEngine engine → scan (To Start) text ≡ Whole rest → stanza_read engine text ≡ None → IsMalformed text
 scanned_none engine text rest is e none = record { no_front = whole_no_front text rest e; begins_none = none_begins engine is text none }
 
 -- what follows what was given
@@ -38,6 +38,6 @@ rest_within buffer spelled rest given e =
     omega (arith, all, length-append spelled rest)
 
 -- nothing was scanned
-pub nothing_scanned : (text : List ℕ) → IsSeen text 0 Start
-unfolding sight
+pub nothing_scanned : (text : List ℕ) → IsScannedTo text 0 Start
+unfolding scan
 nothing_scanned text = record { within = omega arith; place_is = refl }

@@ -5,14 +5,14 @@ use Rattle.std.proofs.Math.Seq.{take-append-add}
 use Rattle.std.proofs.lemmas.Bool.{cases_lt}
 use Rattle.std.proofs.lemmas.List.{append-nil, length-append, nil_from_length, take_all}
 use Rattle.std.proofs.lemmas.List.Concat.{flat_map-append}
-use Rattle.age_core.specs.declared.front.Place.TheVariants.{Start}
-use Rattle.age_core.specs.declared.front.Step.TheVariants.{To}
+use Rattle.age_core.specs.declared.scan.Place.TheVariants.{Start}
+use Rattle.age_core.specs.declared.scan.Step.TheVariants.{To}
 use Rattle.age_core.specs.Stanza.{Stanza, IsStanza, IsFront, spelling}
 use Rattle.age_core.specs.Front.{BeginsNone, IsMalformed}
 use Rattle.age_core.specs.Reading.{IsDone, NoneDone, HasNoDone, StandsBeforeDone, Before_done, Invalid_data, Unexpected_eof, Too_much, Reads}
 use Rattle.age_core.specs.Receiving.{Held, Took, Receives}
-use Rattle.age_core.specs.Sight.{sight, At, Whole}
-use Rattle.age_core.proofs.Sights.{sight_spelling}
+use Rattle.age_core.specs.private.Scan.{scan, At, Whole}
+use Rattle.age_core.proofs.Scans.{scan_spelling}
 use Rattle.age_core.proofs.Stanzas.{the_same_stanza as same_stanza}
 use Rattle.age_core.proofs.Fronts.{front_seen}
 
@@ -21,8 +21,8 @@ use Rattle.age_core.proofs.Fronts.{front_seen}
 -- no spelling begins a front
 pub front_begins_none : (text : List ℕ) → IsFront text → BeginsNone text
 front_begins_none text front s more is same =
-    let seen = front_seen text (sight (To Start) text) refl front in
-    let both : At seen.0 ≡ Whole more = sym seen.1 ∙ (ap (sight (To Start)) same ∙ sight_spelling s more is) in
+    let seen = front_seen text (scan (To Start) text) refl front in
+    let both : At seen.0 ≡ Whole more = sym seen.1 ∙ (ap (scan (To Start)) same ∙ scan_spelling s more is) in
     absurd cc
 
 -- of two beginnings of one text the shorter begins the longer

@@ -10,7 +10,7 @@ use Rattle.std.proofs.lemmas.List.Concat.{flat_map-append}
 use Rattle.base64.specs.Engines.{standard_no_pad}
 use Rattle.age_core.specs.Stanza.{Stanza, IsStanza, IsBytes, IsArbitraryString, body_lines, spelling}
 use Rattle.base64.specs.declared.engine.general_purpose.GeneralPurpose.{GeneralPurpose}
-use Rattle.age_core.specs.Scan.{IsLineEngine, words_from, lines_from, stanza_from, stanza_behind, stanza_read}
+use Rattle.age_core.specs.private.Parse.{IsLineEngine, words_from, lines_from, stanza_from, stanza_behind, stanza_read}
 use Rattle.age_core.proofs.Cases.{chosen, some_parts, IsBytes-rest, IsBytes-append_right}
 use Rattle.age_core.proofs.Words.{joined, behind_space, SpellsWords, words_sound, words_complete}
 use Rattle.age_core.proofs.Lines.{lines_sound, lines_complete}

@@ -4,7 +4,7 @@ use Rattle.std.proofs.lemmas.Bool.{ne_eqb, eq-eqb}
 use Rattle.std.proofs.lemmas.List.{at_drop_more, at_drop_all, take_more, get_or-drop, length-drop}
 use Rattle.base64.specs.declared.engine.general_purpose.GeneralPurpose.{GeneralPurpose}
 use Rattle.base64.specs.GeneralPurpose.{decoded_of}
-use Rattle.age_core.specs.Scan.{is_visible, words_from, lines_from}
+use Rattle.age_core.specs.private.Parse.{is_visible, words_from, lines_from}
 
 -- ---- a header line
 

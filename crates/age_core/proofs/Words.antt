@@ -5,7 +5,7 @@ use Rattle.std.proofs.lemmas.Bool.{leb-true, le-leb, and_parts, and_from, eqb-tr
 use Rattle.std.proofs.lemmas.List.{append-nil}
 use Rattle.std.proofs.lemmas.List.Concat.{flat_map-append}
 use Rattle.age_core.specs.Stanza.{IsVisible, IsArbitraryString}
-use Rattle.age_core.specs.Scan.{is_visible, words_from}
+use Rattle.age_core.specs.private.Parse.{is_visible, words_from}
 use Rattle.std.proofs.lemmas.Option.{none-some}
 use Rattle.age_core.proofs.Cases.{chosen, length_not_zero, not_nil, some_parts}
 

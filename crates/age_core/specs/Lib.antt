@@ -14,9 +14,5 @@ pub mod Receiving
 pub mod Connecting
 -- what a phase gives to its commands
 pub mod Phases
--- the tags that a phase is given: no public clause cites it
-pub mod Tags
--- the scan that tells a front: no public clause cites it
-pub mod Sight
--- the plain program that finds a stanza: no public clause cites it
-pub mod Scan
+-- what private functions compute: no public clause cites it
+pub mod private

@@ -15,7 +15,7 @@ Rose before now = next_count before ≤ now
 
 -- A read of n bytes: they are the front of the text, which loses them, and none of a buffer
 -- that isn't empty only where the text is empty.
-pub record Took (text : List ℕ) (now : Option (List ℕ)) (n : ℕ) (buffer : List ℕ) : Type 0 where
+pub record Gave (text : List ℕ) (now : Option (List ℕ)) (n : ℕ) (buffer : List ℕ) : Type 0 where
   pub within : n ≤ length text
   pub front : take n buffer ≡ take n text
   pub rest : now ≡ Some (drop n text)
@@ -23,7 +23,7 @@ pub record Took (text : List ℕ) (now : Option (List ℕ)) (n : ℕ) (buffer : 
 
 -- where a source tells its bytes, it gave n of them
 abbrev pub Gives : Option (List ℕ) → Option (List ℕ) → ℕ → List ℕ → Type 0
-Gives before now n buffer = IfSome before (λ text. Took text now n buffer)
+Gives before now n buffer = IfSome before (λ text. Gave text now n buffer)
 
 -- where a sink tells what it got, it gained exactly this
 abbrev pub Gains : Option (List ℕ) → Option (List ℕ) → List ℕ → Type 0

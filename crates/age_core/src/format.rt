@@ -1,11 +1,8 @@
-//! Stanzas, and the reading of a text as stanzas.
+//! Stanzas.
 
-ghost use Rattle.std.specs.Prelude.{◌≡◌, ℕ, List, map, IfOk};
-ghost use Rattle.age_core.specs.Stanza.{stanza_of};
-ghost use Rattle.age_core.specs.Reading.{Splits};
-
-use crate::scan::{engine, stanza_at};
-use std::alloc::{AllocError, Global};
+ghost use Rattle.std.specs.Prelude.{◌≡◌};
+ghost use Rattle.std.specs.Str.{bytes_eq};
+ghost use Rattle.std.specs.String.{string_bytes};
 
 /// A stanza that owns its parts.
 ///
@@ -20,19 +17,11 @@ pub struct Stanza {
     pub body: Vec<u8>,
 }
 
-/// The longest list of stanzas whose spellings begin the text.
-///
-/// What follows them is left out. It may be a part of a stanza, or no stanza at all.
-/// The only error is want of memory.
-pub fn stanzas_of(alloc: Global, text: &[u8]) -> Result<Vec<Stanza>, AllocError>
-    ensures { IfOk result (λ stanzas. (rest : List ℕ) × Splits text.now (map stanza_of stanzas.items) rest) }
-{
-    let engine = engine();
-    let mut stanzas = Vec::new(alloc);
-    let mut rest = text;
-    while let Some((stanza, after)) = stanza_at(alloc, &engine, rest)? {
-        stanzas.push(stanza)?;
-        rest = after;
+impl Stanza {
+    /// Whether this is its tag.
+    pub fn has_tag(&self, tag: &str) -> bool
+        ensures { result ≡ bytes_eq (string_bytes self.now.tag) tag.now }
+    {
+        self.tag.as_str() == tag
     }
-    Ok(stanzas)
 }

@@ -2,10 +2,12 @@
 
 ghost use Rattle.std.specs.Prelude.{◌≡◌, ℕ, ◌+◌, ◌-◌, ◌^◌, ◌<◌, List, [], ◌∷◌, ◌++◌, ◌↔◌, length, codes, replicate, Option, Some};
 ghost use Rattle.age_core.specs.Outside.{last_count, Rose, GainsPart};
-ghost use Rattle.age_core.specs.Stanza.{Stanza, IsStanza, IsFront, spelling};
+ghost use Rattle.age_core.specs.Stanza.{Stanza, IsStanza, IsFront, IsVisible, alphabet, body_lines, spelling};
 ghost use Rattle.age_core.specs.Front.{IsFrontByCases, IsMalformed};
 ghost use Rattle.age_core.specs.Receiving.{Held, Receives, Took, fresh};
 ghost use Rattle.age_core.specs.Reading.{HasNoDone, IsDone, NoneDone, Reading, Reads, StandsBeforeDone, Before_done, Invalid_data, Unexpected_eof, Too_much};
+
+use crate::plugin::{IDENTITY_V1, RECIPIENT_V1};
 
 /// Counts of faults at their edges: a count rises by one, and stands still at 2 ^ 64 - 1.
 pub fn worked_counts()
@@ -20,6 +22,29 @@ pub fn worked_counts()
 pub fn worked_parts()
     ensures part { GainsPart (Some (codes "a")) (Some (codes "abc")) (codes "bcd") }
     ensures no_part { GainsPart (Some (codes "a")) (Some (codes "ac")) (codes "bcd") → ⊥ }
+{}
+
+/// The names of the state machines of plugins.
+pub fn state_machines()
+    ensures identity { IDENTITY_V1.now ≡ codes "identity-v1" }
+    ensures recipient { RECIPIENT_V1.now ≡ codes "recipient-v1" }
+{}
+
+/// A tag and an argument may hold the bytes from 33 to 126.
+pub fn visible_bytes()
+    ensures first { IsVisible 33 × (IsVisible 32 → ⊥) }
+    ensures last { IsVisible 126 × (IsVisible 127 → ⊥) }
+{}
+
+/// The 64 characters of base64: the capital letters, the small ones, the digits, `+` and `/`.
+pub fn characters()
+    ensures { alphabet ≡ codes "ABCDEFGHIJKLMNOPQRSTUVWXYZ" ++ codes "abcdefghijklmnopqrstuvwxyz" ++ codes "0123456789" ++ codes "+/" }
+{}
+
+/// A line of a body has 64 characters: 48 bytes fill one, and an empty line follows; 49 begin a second.
+pub fn worked_lines()
+    ensures full { body_lines (replicate 48 0) ≡ replicate 64 65 ++ 10 ∷ 10 ∷ [] }
+    ensures longer { body_lines (replicate 49 0) ≡ replicate 64 65 ++ 10 ∷ 65 ∷ 65 ∷ 10 ∷ [] }
 {}
 
 /// No spelling begins another: what two stanzas spell at the front of one text is one stanza.

@@ -2,9 +2,9 @@
 #![tactic(auto)]
 
 pub mod format;
-mod front;
 pub mod laws;
 pub mod outside;
+mod parse;
 pub mod plugin;
 mod scan;
 #[cfg(test)]

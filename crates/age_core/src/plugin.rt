@@ -15,10 +15,10 @@ use std::alloc::{AllocError, AllocFailed};
 use thiserror::Error;
 pub use unidir::UnidirAnswer;
 
-/// The first phase of a plugin that holds identities.
+/// The name of the state machine in which a plugin that holds identities is asked to open files.
 pub const IDENTITY_V1: &str = "identity-v1";
 
-/// The first phase of a plugin that holds recipients.
+/// The name of the state machine in which a plugin that holds recipients is asked to seal files.
 pub const RECIPIENT_V1: &str = "recipient-v1";
 
 /// What the other side answers in place of a stanza.

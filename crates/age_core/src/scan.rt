@@ -1,140 +1,145 @@
-//! One stanza at the front of a text: its header line, and the lines of its body.
+//! The scan of a growing text for the end of its first stanza. No byte is scanned twice.
 
-ghost use Rattle.std.specs.Prelude.{◌≡◌, ◌<◌, ◌≤◌, ◌↔◌, ℕ, None, Some, List, [], length, map, take, IfOk, IfSome, IfSome, OnOk, MatchBool, ◌++◌};
-ghost use Rattle.std.specs.Option.{option_map};
-ghost use Rattle.std.specs.String.{string_bytes};
-ghost use Rattle.base64.specs.GeneralPurpose.{decoded_of};
-ghost use Rattle.age_core.specs.Stanza.{IsBytes, stanza_of};
-ghost use Rattle.age_core.specs.Scan.{IsLineEngine, is_visible, words_from, lines_from, stanza_read};
+ghost use Rattle.std.specs.Prelude.{◌≡◌, ◌==◌, if◌then◌else◌, ℕ, List, length};
+ghost use Rattle.age_core.specs.private.Parse.{is_visible};
+ghost use Rattle.age_core.specs.private.Scan.{is_character, step, scan, IsScannedTo, Whole, Broken};
+ghost use Rattle.age_core.specs.declared.scan.Place.TheVariants.{Start};
+ghost use Rattle.age_core.specs.declared.scan.Step.TheVariants.{To};
 
-use crate::format::Stanza;
-use base64::DecodeAllocError;
-use base64::alphabet::Alphabet;
-use base64::engine::general_purpose::{GeneralPurpose, NO_PAD};
-use std::alloc::{AllocError, Global};
-use std::mem;
+use crate::parse::{LINE_LEN, is_visible};
 
-/// The characters for 0 to 63 (RFC 4648, section 4).
-const ALPHABET: &str = "ABCDEFGHIJKLMNOPQRSTUVWXYZabcdefghijklmnopqrstuvwxyz0123456789+/";
-
-/// How many characters a full line of a body has.
-pub const LINE_LEN: usize = 64;
-
-/// What each stanza begins with.
-const PREFIX: &[u8; 3] = b"-> ";
-
-/// The engine of a body's lines: without padding, and strict.
-pub fn engine() -> GeneralPurpose
-    ensures { IsLineEngine result }
-{
-    let Ok(alphabet) = Alphabet::new(ALPHABET) else {
-        unreachable!();
-    };
-    GeneralPurpose::new(&alphabet, NO_PAD)
+/// Where in a stanza the next byte stands.
+#[derive(Clone, Copy, Debug, PartialEq, Eq)]
+pub enum Place {
+    /// At the first byte of `-> `.
+    Start,
+    /// At its second byte.
+    Dash,
+    /// At its third byte.
+    Arrow,
+    /// At the first byte of a tag or an argument.
+    Gap,
+    /// Behind a byte of a tag or an argument.
+    Word,
+    /// Behind so many characters of a line of the body.
+    Line(usize),
 }
 
-/// Whether a tag or an argument may hold the byte.
-pub fn is_visible(byte: u8) -> bool
-    ensures { result ≡ is_visible byte }
-{
-    33 <= byte && byte <= 126
+/// What a byte is at its place.
+#[derive(Clone, Copy, Debug, PartialEq, Eq)]
+pub enum Step {
+    /// It leads to the next place.
+    To(Place),
+    /// It ends a stanza.
+    End,
+    /// No stanza has it there.
+    Bad,
 }
 
-/// The words of a header line, which single spaces separate, and what follows the line.
-fn words_at(alloc: Global, text: &[u8]) -> Result<Option<(Vec<String>, &[u8])>, AllocError>
-    ensures { IfOk result (λ found.
-        option_map (λ x. (map string_bytes x.0.items, x.1.now)) found ≡ words_from [] [] text.now) }
+/// What ended a scan.
+#[derive(Clone, Copy, Debug, PartialEq, Eq)]
+pub enum Stop {
+    /// The text did.
+    Text,
+    /// The end of a stanza did.
+    Whole,
+    /// A byte that no stanza has there did.
+    Broken,
+}
+
+/// How far a text was scanned, and the place of the next byte.
+#[derive(Clone, Copy, Debug, PartialEq, Eq)]
+pub struct Scan {
+    pub seen: usize,
+    pub place: Place,
+}
+
+/// Whether the byte is one of the 64 characters.
+fn is_character(byte: u8) -> bool
+    ensures { result ≡ is_character byte }
 {
-    let mut words = Vec::new(alloc);
-    let mut word = String::new(alloc);
-    for (i, &byte) in text.iter().enumerate() {
-        if is_visible(byte) {
-            word.push(char::from(byte))?;
-            continue;
-        }
-        if word.is_empty() {
-            return Ok(None);
-        }
-        words.push(mem::replace(&mut word, String::new(alloc)))?;
-        if byte == b'\n' {
-            return Ok(Some((words, &text[i + 1..])));
-        }
-        if byte != b' ' {
-            return Ok(None);
-        }
+    matches!(byte, b'A'..=b'Z' | b'a'..=b'z' | b'0'..=b'9' | b'+' | b'/')
+}
+
+/// What a byte of a header line is, behind another byte of a tag or an argument.
+fn step_word(byte: u8) -> Step
+    ensures { result ≡ step Place.Word byte }
+{
+    if is_visible(byte) {
+        return Step::To(Place::Word);
     }
-    Ok(None)
-}
-
-/// Appends the bytes that a line spells to the body, and answers whether it spells any.
-fn push_line(engine: &GeneralPurpose, line: &[u8], body: &mut Vec<u8>) -> Result<bool, AllocError>
-    requires { IsLineEngine engine.now }
-    ensures value { IfOk result (λ spells. MatchBool spells
-        ((bytes : List ℕ) × (decoded_of engine.now line.now ≡ Some bytes) × (body.new.items ≡ body.old.items ++ bytes))
-        (decoded_of engine.now line.now ≡ None)) }
-    ensures bytes { OnOk result (IsBytes body.new.items) }
-{
-    match engine.decode_vec(line, body) {
-        Ok(()) => Ok(true),
-        Err(DecodeAllocError::DecodeError(_)) => Ok(false),
-        Err(DecodeAllocError::OutOfMemory) => Err(AllocError),
+    match byte {
+        b' ' => Step::To(Place::Gap),
+        b'\n' => Step::To(Place::Line(0)),
+        _ => Step::Bad,
     }
 }
 
-/// The body that the lines at the front of the text spell, and what follows its last line.
-fn body_at<'a>(
-    alloc: Global,
-    engine: &GeneralPurpose,
-    text: &'a [u8],
-) -> Result<Option<(Vec<u8>, &'a [u8])>, AllocError>
-    requires { IsLineEngine engine.now }
-    ensures value { IfOk result (λ found. option_map (λ x. (x.0.items, x.1.now)) found ≡ lines_from engine.now [] [] text.now) }
-    ensures bytes { IfOk result (λ found. IfSome found (λ x. IsBytes x.0.items)) }
+/// What a byte of a body is, behind so many characters of its line.
+fn step_line(len: usize, byte: u8) -> Step
+    ensures { result ≡ step (Place.Line len) byte }
 {
-    let mut body = Vec::new(alloc);
-    let mut start = 0;
-    for (i, &byte) in text.iter().enumerate() {
-        let line = &text[start..i];
-        if byte != b'\n' {
-            if line.len() == LINE_LEN {
-                return Ok(None);
+    if byte == b'\n' {
+        return if len >= LINE_LEN {
+            Step::To(Place::Line(0))
+        } else {
+            Step::End
+        };
+    }
+    if len >= LINE_LEN || !is_character(byte) {
+        return Step::Bad;
+    }
+    Step::To(Place::Line(len + 1))
+}
+
+/// The step, where the byte is the one that stands there.
+fn step_mark(byte: u8, mark: u8, next: Place) -> Step
+    ensures { result ≡ (if byte == mark then Step.To next else Step.Bad) }
+{
+    if byte == mark {
+        Step::To(next)
+    } else {
+        Step::Bad
+    }
+}
+
+/// What a byte is at a place.
+fn step_at(place: Place, byte: u8) -> Step
+    ensures { result ≡ step place byte }
+{
+    match place {
+        Place::Start => step_mark(byte, b'-', Place::Dash),
+        Place::Dash => step_mark(byte, b'>', Place::Arrow),
+        Place::Arrow => step_mark(byte, b' ', Place::Gap),
+        Place::Gap if is_visible(byte) => Step::To(Place::Word),
+        Place::Gap => Step::Bad,
+        Place::Word => step_word(byte),
+        Place::Line(len) => step_line(len, byte),
+    }
+}
+
+/// Scans a text on, and answers how far the scan came and what ended it. The byte that ended it was
+/// not scanned.
+pub(crate) fn scan_on(text: &[u8], from: Scan) -> (Scan, Stop)
+    requires { IsScannedTo text.now from.seen from.place }
+    ensures seen { IsScannedTo text.now result.0.seen result.0.place }
+    ensures text { result.1 ≡ Stop.Text → result.0.seen ≡ length text.now }
+    ensures whole { result.1 ≡ Stop.Whole → (rest : List ℕ) × (scan (To Start) text.now ≡ Whole rest) }
+    ensures broken { result.1 ≡ Stop.Broken → scan (To Start) text.now ≡ Broken }
+{
+    let Scan {
+        mut seen,
+        mut place,
+    } = from;
+    while seen < text.len() {
+        match step_at(place, text[seen]) {
+            Step::To(next) => {
+                place = next;
+                seen += 1;
             }
-            continue;
+            Step::End => return (Scan { seen, place }, Stop::Whole),
+            Step::Bad => return (Scan { seen, place }, Stop::Broken),
         }
-        if !push_line(engine, line, &mut body)? {
-            return Ok(None);
-        }
-        if line.len() < LINE_LEN {
-            return Ok(Some((body, &text[i + 1..])));
-        }
-        start = i + 1;
     }
-    Ok(None)
-}
-
-/// The stanza whose spelling begins the text, and what follows it.
-pub fn stanza_at<'a>(
-    alloc: Global,
-    engine: &GeneralPurpose,
-    text: &'a [u8],
-) -> Result<Option<(Stanza, &'a [u8])>, AllocError>
-    requires { IsLineEngine engine.now }
-    ensures value { IfOk result (λ found. option_map (λ x. (stanza_of x.0, x.1.now)) found ≡ stanza_read engine.now text.now) }
-    ensures bytes { IfOk result (λ found. IfSome found (λ x. IsBytes x.0.body.items)) }
-{
-    let Some(text) = text.strip_prefix(PREFIX) else {
-        return Ok(None);
-    };
-    let Some((mut words, text)) = words_at(alloc, text)? else {
-        return Ok(None);
-    };
-    if words.is_empty() {
-        return Ok(None);
-    }
-    let Some((body, rest)) = body_at(alloc, engine, text)? else {
-        return Ok(None);
-    };
-    let tag = words.remove(0);
-    let args = words;
-    Ok(Some((Stanza { tag, args, body }, rest)))
+    (Scan { seen, place }, Stop::Text)
 }

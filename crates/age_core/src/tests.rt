@@ -1,26 +1,9 @@
-//! What no clause says: that each call succeeds with memory.
+//! What no clause says: that a sink over memory takes what it is given, and what `==` says of stanzas.
 
-use crate::format::stanzas_of;
+use crate::format::Stanza;
 use crate::outside::*;
+use crate::plugin::StanzaReader;
 use std::test::Fail;
-
-#[test]
-fn sources_over_memory_give_their_bytes(rt: HostRuntime) -> Result<(), Fail> {
-    let bytes = b"hello".to_vec(rt.alloc())?;
-    let fail_at = [1].to_vec(rt.alloc())?;
-    let mut source = MemSource::new(bytes, 2, fail_at);
-    let mut buffer = [0u8; 4];
-    for want in [Ok(2), Err(Failed), Ok(2), Ok(1), Ok(0)] {
-        assert_eq!(rt; source.read(&mut buffer), want);
-    }
-    assert_eq!(rt; source.reads(), 5);
-
-    let mut clean = CleanSource::new(b"hello".to_vec(rt.alloc())?);
-    for want in [Ok(4), Ok(1), Ok(0)] {
-        assert_eq!(rt; clean.read(&mut buffer), want);
-    }
-    Ok(())
-}
 
 #[test]
 fn the_sink_over_memory_holds_what_it_got(rt: HostRuntime) -> Result<(), Fail> {
@@ -33,45 +16,15 @@ fn the_sink_over_memory_holds_what_it_got(rt: HostRuntime) -> Result<(), Fail> {
     Ok(())
 }
 
-/// Texts, the tags of their stanzas joined, the sum of their arguments and of the lengths of their bodies.
-const TEXTS: [(&[u8], &str, usize, usize); 7] = [
-    (b"-> done\n\n", "done", 0, 0),
-    (b"-> test foo\nYmFy\n-> done\n\n", "testdone", 1, 3),
-    (
-        b"-> kem\nAAAAAAAAAAAAAAAAAAAAAAAAAAAAAAAAAAAAAAAAAAA\n-> do",
-        "kem",
-        0,
-        32,
-    ),
-    (b"-> empty-body some arguments\n\n", "empty-body", 2, 0),
-    (b"-> H\n/\n\n", "", 0, 0),
-    (b"-> two  spaces\n\n", "", 0, 0),
-    (b"-> x\nAB\n", "", 0, 0),
-];
-
-#[test]
-fn stanzas_begin_a_text(rt: HostRuntime) -> Result<(), Fail> {
-    for (text, tags, args, bytes) in TEXTS {
-        let stanzas = stanzas_of(rt.alloc(), text)?;
-        let mut tag = String::new(rt.alloc());
-        let mut arg_count = 0usize;
-        let mut byte_count = 0usize;
-        for stanza in &stanzas {
-            tag.push_str(stanza.tag.as_str())?;
-            arg_count = arg_count.saturating_add(stanza.args.len());
-            byte_count = byte_count.saturating_add(stanza.body.len());
-        }
-        assert_eq!(rt; tag.as_str(), tags);
-        assert_eq!(rt; (arg_count, byte_count), (args, bytes), "{tags}");
-    }
-    Ok(())
-}
-
 #[test]
 fn equal_stanzas_are_equal(rt: HostRuntime) -> Result<(), Fail> {
-    let stanzas = stanzas_of(rt.alloc(), b"-> a b\nYmFy\n-> a b\nYmFy\n-> a c\nYmFy\n")?;
-    assert_eq!(rt; stanzas.len(), 3);
-    assert!(rt; stanzas[0] == stanzas[1]);
-    assert!(rt; stanzas[0] != stanzas[2]);
+    let text = b"-> a b\nYmFy\n-> a b\nYmFy\n-> a c\nYmFy\n".to_vec(rt.alloc())?;
+    let mut source = CleanSource::new(text);
+    let mut reader = StanzaReader::new(rt.alloc(), 100);
+    let mut next = || -> Option<Stanza> { reader.receive_from(&mut source).ok() };
+    let (one, other, third) = (next(), next(), next());
+    assert!(rt; one.is_some());
+    assert!(rt; one == other);
+    assert!(rt; one != third);
     Ok(())
 }

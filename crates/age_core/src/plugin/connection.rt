@@ -52,8 +52,8 @@ impl<R: Source, W: Sink> Connection<R, W> {
         (source, sink)
     }
 
-    /// The next stanza, by [`StanzaReader::receive_from`], whose refusals and whose rests are those of
-    /// this call.
+    /// The next stanza, by [`StanzaReader::receive_from`], whose refusals, `NoMemory` among them, and
+    /// whose rests are those of this call.
     pub fn receive(&mut self) -> std::result::Result<Stanza, PhaseError>
         ensures given { IfOk result (λ stanza. Receives (held_by self.old) (held_by self.new)
             (R.left (source_of self.old)) (R.left (source_of self.new)) (stanza_of stanza ∷ [])) }

@@ -8,9 +8,9 @@ ghost use Rattle.age_core.specs.Receiving.{Receives, Took, fresh};
 
 use super::PhaseError;
 use crate::format::Stanza;
-use crate::front::{Place, Scan, Stop, scan_on};
 use crate::outside::{Failed, Source};
-use crate::scan::{engine, stanza_at};
+use crate::parse::{engine, stanza_at};
+use crate::scan::{Place, Scan, Stop, scan_on};
 use base64::engine::general_purpose::GeneralPurpose;
 use std::alloc::{AllocError, Global};
 use std::marker::Model;
@@ -35,7 +35,7 @@ pub struct StanzaReader {
 impl Model for StanzaReader {
     ghost use Rattle.std.specs.Prelude.{drop};
     ghost use Rattle.age_core.specs.Receiving.{Held};
-    ghost use Rattle.age_core.specs.Sight.{IsScanned};
+    ghost use Rattle.age_core.specs.private.Scan.{IsScanned};
 
     ghost Value = { Held };
 
@@ -137,7 +137,8 @@ impl StanzaReader {
     ///
     /// `ReadFault`: a read failed. What is held is a proper prefix of a spelling, and the next call
     /// reads on. `InvalidData`: what is held begins no stanza, and so it is at each later call.
-    /// `UnexpectedEof`: the source ended. `TooMuch`: the budget is used up.
+    /// `UnexpectedEof`: the source ended. `TooMuch`: the budget is used up. `NoMemory`: memory for what
+    /// is read or for the stanza was refused, and the next call goes on from there.
     pub fn receive_from<S: Source>(&mut self, source: &mut S) -> Result<Stanza, PhaseError>
         ensures given { IfOk result (λ stanza. Receives self.old self.new (S.left source.old) (S.left source.new) (stanza_of stanza ∷ [])) }
         // Nothing was read, or at most 4095 bytes are held behind the stanza.

@@ -1,10 +1,11 @@
-//! What no clause says: that each call succeeds with memory, and that the definitions mean what the
-//! format says: texts and their answers, whatever the pieces.
+//! What no clause says: that each call succeeds with memory, that the definitions mean what the format
+//! says, and in which order a phase calls its closures.
 
 use super::*;
 use crate::format::Stanza;
-use crate::outside::{CleanSource, MemSink, MemSource, NoSink, Sink, Source, StdSink, StdSource};
+use crate::outside::{MemSink, MemSource, Sink, Source, StdSink, StdSource};
 use std::alloc::{AllocError, Global};
+use std::cell::Cell;
 use std::test::Fail;
 
 /// More than any text has.
@@ -13,20 +14,21 @@ const BUDGET: u64 = 65_536;
 /// The sizes of pieces in which texts come.
 const PIECES: [usize; 4] = [1, 7, 64, 4096];
 
-/// A text of bytes repeated, and what follows.
-fn text(
+/// A source of a text, with a part of it repeated, in pieces.
+fn source_of(
     alloc: Global,
     front: &[u8],
     part: &[u8],
     count: usize,
-    back: &[u8],
-) -> std::result::Result<Vec<u8>, AllocError> {
+    piece: usize,
+) -> std::result::Result<MemSource, AllocError>
+    requires { 1 ≤ piece }
+{
     let mut text = Vec::from_slice(alloc, front)?;
     for _ in 0..count {
         text.extend_from_slice(part)?;
     }
-    text.extend_from_slice(back)?;
-    Ok(text)
+    Ok(MemSource::new(text, piece, Vec::new(alloc)))
 }
 
 /// Texts with their answer, which the next call gives again.
@@ -57,8 +59,7 @@ const REFUSED: [(&[u8], &[u8], usize, u64, PhaseError); 14] = [
 fn hostile_texts_are_refused_again_and_again(rt: HostRuntime) -> std::result::Result<(), Fail> {
     for piece in PIECES {
         for (front, part, count, budget, want) in REFUSED {
-            let bytes = text(rt.alloc(), front, part, count, b"")?;
-            let mut source = MemSource::new(bytes, piece, Vec::new(rt.alloc()));
+            let mut source = source_of(rt.alloc(), front, part, count, piece)?;
             let mut reader = StanzaReader::new(rt.alloc(), budget);
             for _ in 0..2 {
                 assert_eq!(rt;
@@ -72,14 +73,34 @@ fn hostile_texts_are_refused_again_and_again(rt: HostRuntime) -> std::result::Re
     Ok(())
 }
 
+/// How often a text of so many bytes is read up to its end, by a source that gives all that is asked for.
+const READS: [(usize, u64); 4] = [(4096, 2), (4097, 3), (8192, 3), (8193, 4)];
+
+#[test]
+fn at_most_4096_bytes_are_read_at_once(rt: HostRuntime) -> std::result::Result<(), Fail> {
+    for (len, want) in READS {
+        let mut source = source_of(
+            rt.alloc(),
+            b"-> ",
+            b"x",
+            len.saturating_sub(3),
+            BUDGET as usize,
+        )?;
+        let mut reader = StanzaReader::new(rt.alloc(), BUDGET);
+        let error = reader.receive_from(&mut source).err();
+        assert_eq!(rt; error, Some(PhaseError::UnexpectedEof));
+        assert_eq!(rt; source.reads(), want, "{len}");
+    }
+    Ok(())
+}
+
 /// A text of stanzas: `done` is the third, and what follows it is no stanza.
 const STANZAS: &[u8] = b"-> a b c\n\n-> test foo\nYmFy\n-> done\n\n-> x\n/\n";
 
 #[test]
 fn stanzas_come_in_any_pieces(rt: HostRuntime) -> std::result::Result<(), Fail> {
     for piece in PIECES {
-        let bytes = Vec::from_slice(rt.alloc(), STANZAS)?;
-        let mut source = MemSource::new(bytes, piece, Vec::new(rt.alloc()));
+        let mut source = source_of(rt.alloc(), STANZAS, b"", 0, piece)?;
         let mut reader = StanzaReader::new(rt.alloc(), BUDGET);
         for (tag, args, body) in [
             ("a", 2, b"".as_slice()),
@@ -97,19 +118,13 @@ fn stanzas_come_in_any_pieces(rt: HostRuntime) -> std::result::Result<(), Fail> 
     Ok(())
 }
 
-/// A mail of an encapsulated key of zeros, and of no messages: 1490 bytes.
-fn long_mail(alloc: Global) -> std::result::Result<Vec<u8>, AllocError> {
-    text(
-        alloc,
-        b"-> kem\n",
-        b"AAAAAAAAAAAAAAAAAAAAAAAAAAAAAAAAAAAAAAAAAAAAAAAAAAAAAAAAAAAAAAAA\n",
-        22,
-        b"AAAAAAAAAAAAAAAAAAAAAAAAAAAAAAAAAAAAAAAAAAA\n-> done\n\n",
-    )
-}
-
-/// What a closure of a command does in the tests: it counts, and errs at stanzas without arguments.
-fn answer(stanza: &Stanza) -> std::result::Result<usize, usize> {
+/// What a closure of a command does in the tests: it notes the command and the length of the body as
+/// two digits, and errs at stanzas without arguments.
+fn noted(log: &Cell<u64>, command: u64, stanza: &Stanza) -> std::result::Result<usize, usize> {
+    let digits = command
+        .wrapping_mul(10)
+        .wrapping_add(stanza.body.len() as u64);
+    log.set(log.get().wrapping_mul(100).wrapping_add(digits));
     if stanza.args.is_empty() {
         Err(stanza.body.len())
     } else {
@@ -117,60 +132,43 @@ fn answer(stanza: &Stanza) -> std::result::Result<usize, usize> {
     }
 }
 
-#[test]
-fn a_phase_gives_stanzas_to_its_commands(rt: HostRuntime) -> std::result::Result<(), Fail> {
-    let bytes = b"-> test foo\nYmFy\n-> done\n\n".to_vec(rt.alloc())?;
-    let mut connection = Connection::new(
-        rt.alloc(),
-        CleanSource::new(bytes),
-        NoSink::new(),
-        BUDGET,
+/// What a phase comes to in the tests.
+type Phase = std::result::Result<UnidirAnswer<usize, usize, usize, usize, usize>, PhaseError>;
+
+/// A phase of the commands `a`, `b` and two that may be left out, and which closures it called.
+fn phase_of(
+    connection: &mut Connection<MemSource, MemSink>,
+    b: &str,
+    c: Option<&str>,
+    d: Option<&str>,
+) -> (Phase, u64) {
+    let log = Cell::new(0u64);
+    let phase = connection.unidir_receive(
+        "a",
+        |stanza: Stanza| noted(&log, 1, &stanza),
+        b,
+        |stanza: Stanza| noted(&log, 2, &stanza),
+        c,
+        |stanza: Stanza| noted(&log, 3, &stanza),
+        d,
+        |stanza: Stanza| noted(&log, 4, &stanza),
     );
-    let phase = connection
-        .unidir_receive(
-            "test",
-            |stanza: Stanza| answer(&stanza),
-            "other",
-            |stanza: Stanza| answer(&stanza),
-            None,
-            |stanza: Stanza| answer(&stanza),
-            None,
-            |stanza: Stanza| answer(&stanza),
-        )
-        .ok()
-        .ok_or("a phase")?;
-    let a = phase.a.ok().ok_or("values")?;
-    assert_eq!(rt; a.as_slice(), [3].as_slice());
-    let b = phase.b.ok().ok_or("values")?;
-    assert_eq!(rt; b.len(), 0);
-    assert!(rt; phase.c.is_none());
-    assert!(rt; phase.d.is_none());
-    Ok(())
+    (phase, log.get())
 }
 
 #[test]
-fn errors_stand_alone_and_the_first_tag_wins(rt: HostRuntime) -> std::result::Result<(), Fail> {
-    let bytes =
-        b"-> a x\nYQ\n-> odd\n\n-> a\nYmE\n-> a x\n\n-> a\n\n-> b x\n\n-> done x\n\n-> a\n\n".to_vec(
-            rt.alloc(),
-        )?;
-    let mut source = MemSource::new(bytes, 7, Vec::new(rt.alloc()));
+fn closures_are_called_in_the_order_of_their_stanzas(
+    rt: HostRuntime,
+) -> std::result::Result<(), Fail> {
+    let text =
+        b"-> a x\nYQ\n-> odd\n\n-> b x\n\n-> a\nYmE\n-> a x\n\n-> a\n\n-> done x\n\n-> a\n\n";
     let mut sink = MemSink::new(rt.alloc(), Vec::new(rt.alloc()));
     assert_eq!(rt; sink.write(b"kept"), Ok(4));
+    let source = source_of(rt.alloc(), text, b"", 0, 7)?;
     let mut connection = Connection::new(rt.alloc(), source, sink, BUDGET);
-    let phase = connection
-        .unidir_receive(
-            "a",
-            |stanza: Stanza| answer(&stanza),
-            "a",
-            |stanza: Stanza| answer(&stanza),
-            Some("b"),
-            |stanza: Stanza| answer(&stanza),
-            Some("done"),
-            |stanza: Stanza| answer(&stanza),
-        )
-        .ok()
-        .ok_or("a phase")?;
+    let (phase, log) = phase_of(&mut connection, "a", Some("b"), Some("done"));
+    assert_eq!(rt; log, 11_30_12_10_10);
+    let phase = phase.ok().ok_or("a phase")?;
     let a = phase.a.err().ok_or("errors")?;
     assert_eq!(rt; a.as_slice(), [2, 0].as_slice());
     let b = phase.b.ok().ok_or("values")?;
@@ -190,25 +188,31 @@ fn errors_stand_alone_and_the_first_tag_wins(rt: HostRuntime) -> std::result::Re
     Ok(())
 }
 
+/// Texts of the commands `a`, `b` and none, how their phase ends, and which closures were called.
+const PHASES: [(&[u8], Option<PhaseError>, u64); 4] = [
+    (b"-> c x\n\n-> a x\nYQ\n-> d\n\n-> done\n\n", None, 11),
+    (
+        b"-> b\nYQ\n-> a\n\n-> a x\nYWE\n-> \n",
+        Some(PhaseError::InvalidData),
+        21_10_12,
+    ),
+    (
+        b"-> a x\nYQ\n-> b\n\n-> done\n",
+        Some(PhaseError::UnexpectedEof),
+        11_20,
+    ),
+    (b"", Some(PhaseError::UnexpectedEof), 0),
+];
+
 #[test]
-fn a_cut_mail_has_no_phase(rt: HostRuntime) -> std::result::Result<(), Fail> {
-    let mail = long_mail(rt.alloc())?;
-    assert_eq!(rt; mail.len(), 1490);
-    for n in 0..1490 {
-        let front = mail.get(..n).ok_or("a front")?;
-        let source = CleanSource::new(Vec::from_slice(rt.alloc(), front)?);
-        let mut connection = Connection::new(rt.alloc(), source, NoSink::new(), 1490);
-        let phase = connection.unidir_receive(
-            "kem",
-            |stanza: Stanza| answer(&stanza),
-            "msg",
-            |stanza: Stanza| answer(&stanza),
-            None,
-            |stanza: Stanza| answer(&stanza),
-            None,
-            |stanza: Stanza| answer(&stanza),
-        );
-        assert_eq!(rt; phase.err(), Some(PhaseError::UnexpectedEof), "{n}");
+fn a_refusal_comes_behind_the_calls_before_it(rt: HostRuntime) -> std::result::Result<(), Fail> {
+    for (text, want, calls) in PHASES {
+        let source = source_of(rt.alloc(), text, b"", 0, 9)?;
+        let sink = MemSink::new(rt.alloc(), Vec::new(rt.alloc()));
+        let mut connection = Connection::new(rt.alloc(), source, sink, BUDGET);
+        let (phase, log) = phase_of(&mut connection, "b", None, None);
+        assert_eq!(rt; log, calls);
+        assert_eq!(rt; phase.err(), want);
     }
     Ok(())
 }
@@ -233,10 +237,6 @@ fn a_connection_over_a_reader_and_a_writer(rt: HostRuntime) -> std::result::Resu
     let mut connection = Connection::accept(rt.alloc(), input, output, BUDGET);
     let stanza = connection.receive().ok().ok_or("a stanza")?;
     assert_eq!(rt; stanza.tag.as_str(), "a");
-    let (mut input, mut output) = connection.into_parts();
-    let mut buffer = [0; 1];
-    assert_eq!(rt; input.read(&mut buffer), Ok(0));
-    assert_eq!(rt; output.write(b"x"), Ok(1));
     Ok(())
 }
 

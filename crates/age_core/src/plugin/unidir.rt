@@ -2,8 +2,6 @@
 
 ghost use Rattle.std.specs.Prelude.{◌≡◌, ◌<◌, ◌≤◌, ◌⊎◌, List, [], ◌∷◌, ◌++◌, length, map, Some, None, true, Result as Res, IfOk, IfSome, IsErrOf, OnOk, OnErr, MatchOption};
 ghost use Rattle.std.specs.Option.{option_copied};
-ghost use Rattle.std.specs.Str.{bytes_eq};
-ghost use Rattle.std.specs.String.{string_bytes};
 ghost use Rattle.age_core.specs.declared.format.Stanza.{Stanza as Held-Stanza};
 ghost use Rattle.age_core.specs.Outside.{Rose};
 ghost use Rattle.age_core.specs.Stanza.{Stanza as Stanza-spelled, IsFront, stanza_of};
@@ -11,7 +9,7 @@ ghost use Rattle.age_core.specs.Front.{IsMalformed};
 ghost use Rattle.age_core.specs.Reading.{IsDone, NoneDone, StandsBeforeDone};
 ghost use Rattle.age_core.specs.Receiving.{Receives};
 ghost use Rattle.age_core.specs.Phases.{Commands, Answers, AnswersIfAsked, is_command, for_a, for_b, for_c, for_d, ComesTo, MayTake, Ran};
-ghost use Rattle.age_core.specs.Tags.{commands_of};
+ghost use Rattle.age_core.specs.private.Tags.{commands_of};
 
 use super::{Connection, PhaseError};
 use crate::format::Stanza;
@@ -99,20 +97,13 @@ struct Running<A, B, C, D, E, F, G, H, I> {
     d: Outcome<D, E>,
 }
 
-/// Whether a stanza has this tag.
-fn has_tag(stanza: &Stanza, tag: &str) -> bool
-    ensures { result ≡ bytes_eq (string_bytes stanza.now.tag) tag.now }
-{
-    stanza.tag.as_str() == tag
-}
-
 /// Whether a stanza has the tag of a command that may be left out.
 fn is_for(stanza: &Stanza, command: Option<&str>) -> bool
     ensures { result ≡ is_command (option_copied command.entry) stanza.now }
 {
     match command {
         None => false,
-        Some(tag) => has_tag(stanza, tag),
+        Some(tag) => stanza.has_tag(tag),
     }
 }
 
@@ -151,9 +142,9 @@ where
         mut c,
         mut d,
     } = running;
-    if has_tag(&stanza, tags.a) {
+    if stanza.has_tag(tags.a) {
         a = give(alloc, &mut on_a, a, stanza)?;
-    } else if has_tag(&stanza, tags.b) {
+    } else if stanza.has_tag(tags.b) {
         b = give(alloc, &mut on_b, b, stanza)?;
     } else if is_for(&stanza, tags.c) {
         c = give(alloc, &mut on_c, c, stanza)?;
@@ -187,9 +178,11 @@ impl<R: Source, W: Sink> Connection<R, W> {
 
     /// Takes the stanzas of the other side up to the first tagged `done`, and gives each to the
     /// closure of the first command whose tag it has. Stanzas of other tags are passed over, and
-    /// `done` ends the phase also where a command has that tag. A command of none is never called.
+    /// `done` ends the phase also where a command has that tag. The closure of a command of none is never
+    /// called.
     ///
-    /// The refusals are those of [`Connection::receive`]. The stanzas that were taken before a refusal
+    /// The refusals are those of [`Connection::receive`], and `NoMemory` comes also where the answers of
+    /// a command find no memory. The stanzas that were taken before a refusal
     /// are gone, and what follows them stays held.
     pub fn unidir_receive<A: Drop, B: Drop, C: Drop, D: Drop, E: Drop, F, G, H, I>(
         &mut self,
@@ -253,7 +246,7 @@ impl<R: Source, W: Sink> Connection<R, W> {
         };
         loop {
             let stanza = self.receive()?;
-            if has_tag(&stanza, DONE_TAG) {
+            if stanza.has_tag(DONE_TAG) {
                 let Running { a, b, c, d, .. } = running;
                 return Ok(UnidirAnswer {
                     a,

@@ -5,12 +5,12 @@ use Rattle.base64.specs.Decode.{groups_error, scan_steps}
 use Rattle.base64.specs.GeneralPurpose.{decoded_of}
 use Rattle.age_core.specs.Stanza.{Stanza, IsStanza, IsFront}
 use Rattle.age_core.specs.Reading.{HasNoDone}
-use Rattle.age_core.specs.Scan.{words_from, lines_from, stanza_behind, stanza_read}
-use Rattle.age_core.specs.Sight.{sight, Whole}
-use Rattle.age_core.specs.declared.front.Place.TheVariants.{Start}
-use Rattle.age_core.specs.declared.front.Step.TheVariants.{To}
+use Rattle.age_core.specs.private.Parse.{words_from, lines_from, stanza_behind, stanza_read}
+use Rattle.age_core.specs.private.Scan.{scan, Whole}
+use Rattle.age_core.specs.declared.scan.Place.TheVariants.{Start}
+use Rattle.age_core.specs.declared.scan.Step.TheVariants.{To}
 use Rattle.age_core.proofs.Stanzas.{standard_is, none_begins}
-use Rattle.age_core.proofs.Sights.{whole_no_front}
+use Rattle.age_core.proofs.Scans.{whole_no_front}
 use Rattle.age_core.proofs.laws.worked_readings.Goals as goal
 
 done : Stanza
@@ -46,8 +46,8 @@ bad_is_none : stanza_read standard_no_pad bad ≡ None
 unfolding bad words_from lines_from stanza_behind stanza_read decoded_of groups_error scan_steps
 bad_is_none = refl
 
-bad_is_whole : sight (To Start) bad ≡ Whole []
-unfolding bad sight
+bad_is_whole : scan (To Start) bad ≡ Whole []
+unfolding bad scan
 bad_is_whole = refl
 
 pub returns-clause-invalid_data : goal.returns-clause-invalid_data

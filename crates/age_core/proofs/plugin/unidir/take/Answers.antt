@@ -1,5 +1,5 @@
 use Rattle.std.proofs.Common.{[], ◌∷◌, sym, ◌∙◌}
-use Rattle.age_core.specs.Tags.{commands_of}
+use Rattle.age_core.specs.private.Tags.{commands_of}
 use Rattle.age_core.proofs.Commands.{ran_as, ran_idle, goes_to_a, goes_to_b, goes_to_c, goes_to_d, goes_nowhere}
 use Rattle.age_core.proofs.plugin.unidir.take.Goals.{then-has_tag+in_ok-a, else-has_tag+then-has_tag-2+in_ok-b, else-has_tag+else-has_tag-2+then-is_for+in_ok-c, else-has_tag+else-has_tag-2+else-is_for+then-is_for-2+in_ok-d, else-has_tag+else-has_tag-2+else-is_for+else-is_for-2}
 use Rattle.age_core.proofs.plugin.unidir.take.Goals as goal

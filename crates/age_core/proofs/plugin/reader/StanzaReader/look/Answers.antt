@@ -3,7 +3,7 @@ use Rattle.age_core.specs.declared.format.Stanza.{Stanza as Held-Stanza}
 use Rattle.age_core.specs.Stanza.{stanza_of, IsBytes, IsStanza, IsFront, spelling}
 use Rattle.age_core.specs.Front.{IsMalformed}
 use Rattle.age_core.specs.Receiving.{Held}
-use Rattle.age_core.specs.Sight.{IsSeen}
+use Rattle.age_core.specs.private.Scan.{IsScannedTo}
 use Rattle.age_core.proofs.Stanzas.{stanza_sound}
 use Rattle.age_core.proofs.Looks.{scanned_front, scanned_broken, scanned_none, nothing_scanned, behind_given, rest_within}
 use Rattle.age_core.proofs.plugin.reader.StanzaReader.look.Goals as goal
@@ -23,7 +23,7 @@ pub invariant_of-self-in-Broken : goal.invariant_of-self-in-Broken
 invariant_of-self-in-Broken c = record {
   given_within = c.self.invariant.given_within;
   engine_is = c.self.invariant.engine_is;
-  seen_is = subst (λ (t : List ℕ). IsSeen t c.scan_on-stop.result.0.seen c.scan_on-stop.result.0.place) c.behind-held.ensures.value c.scan_on-stop.ensures.seen;
+  seen_is = subst (λ (t : List ℕ). IsScannedTo t c.scan_on-stop.result.0.seen c.scan_on-stop.result.0.place) c.behind-held.ensures.value c.scan_on-stop.ensures.seen;
 }
 
 pub returns-in-Broken-clause-malformed : goal.returns-in-Broken-clause-malformed
@@ -37,14 +37,14 @@ pub invariant_of-self-in_err-stanza : goal.invariant_of-self-in_err-stanza
 invariant_of-self-in_err-stanza c = record {
   given_within = c.self.invariant.given_within;
   engine_is = c.self.invariant.engine_is;
-  seen_is = subst (λ (t : List ℕ). IsSeen t c.scan_on-stop.result.0.seen c.scan_on-stop.result.0.place) c.behind-held.ensures.value c.scan_on-stop.ensures.seen;
+  seen_is = subst (λ (t : List ℕ). IsScannedTo t c.scan_on-stop.result.0.seen c.scan_on-stop.result.0.place) c.behind-held.ensures.value c.scan_on-stop.ensures.seen;
 }
 
 pub invariant_of-self-in_default : goal.invariant_of-self-in_default
 invariant_of-self-in_default c = record {
   given_within = c.self.invariant.given_within;
   engine_is = c.self.invariant.engine_is;
-  seen_is = subst (λ (t : List ℕ). IsSeen t c.scan_on-stop.result.0.seen c.scan_on-stop.result.0.place) c.behind-held.ensures.value c.scan_on-stop.ensures.seen;
+  seen_is = subst (λ (t : List ℕ). IsScannedTo t c.scan_on-stop.result.0.seen c.scan_on-stop.result.0.place) c.behind-held.ensures.value c.scan_on-stop.ensures.seen;
 }
 
 pub returns-in_default-clause-malformed : goal.returns-in_default-clause-malformed

@@ -1,8 +1,8 @@
 use Rattle.std.proofs.Common.{◌≡◌, ℕ, List, [], ◌++◌, drop, ap, sym, subst, ◌∙◌, arith}
 use Rattle.std.proofs.lemmas.List.{append-nil, nil_from_length}
 use Rattle.age_core.specs.Receiving.{Took}
-use Rattle.age_core.specs.Sight.{IsSeen}
-use Rattle.age_core.proofs.Sights.{seen_longer}
+use Rattle.age_core.specs.private.Scan.{IsScannedTo}
+use Rattle.age_core.proofs.Scans.{seen_longer}
 use Rattle.age_core.proofs.plugin.reader.StanzaReader.read_piece.Goals as goal
 
 nothing_behind : (now mid before bytes : List ℕ) → now ≡ mid ++ bytes → bytes ≡ [] → mid ≡ before → now ≡ before
@@ -29,5 +29,5 @@ invariant_of-self-2 g c =
     record {
       given_within = omega arith;
       engine_is = c.self.invariant.engine_is;
-      seen_is = subst (λ (t : List ℕ). IsSeen t c.self.inside.scan.seen c.self.inside.scan.place) (sym held) longer;
+      seen_is = subst (λ (t : List ℕ). IsScannedTo t c.self.inside.scan.seen c.self.inside.scan.place) (sym held) longer;
     }

@@ -1,6 +1,6 @@
 use Rattle.std.proofs.Common.{◌+◌, drop, sym, ◌∙◌}
-use Rattle.age_core.proofs.Sights.{seen_more, seen_whole, seen_broken}
-use Rattle.age_core.proofs.front.scan_on.Goals as goal
+use Rattle.age_core.proofs.Scans.{seen_more, seen_whole, seen_broken}
+use Rattle.age_core.proofs.scan.scan_on.Goals as goal
 
 pub loop-seen-preserved : goal.loop-seen-preserved
 loop-seen-preserved c =

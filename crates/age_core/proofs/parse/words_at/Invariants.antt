@@ -1,7 +1,7 @@
 use Rattle.std.proofs.Common.{◌≡◌, [], map, drop}
 use Rattle.std.specs.String.{string_bytes}
-use Rattle.age_core.specs.Scan.{words_from}
-use Rattle.age_core.proofs.scan.words_at.Given as goal
+use Rattle.age_core.specs.private.Parse.{words_from}
+use Rattle.age_core.proofs.parse.words_at.Given as goal
 
 -- the words so far and those of what is left are those of the text
 abbrev pub invariant-loop-i : goal.invariant-loop-i

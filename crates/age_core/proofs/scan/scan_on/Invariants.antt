@@ -1,10 +1,10 @@
 use Rattle.std.proofs.Common.{length, ◌-◌}
-use Rattle.age_core.specs.Sight.{IsSeen}
-use Rattle.age_core.proofs.front.scan_on.Given as goal
+use Rattle.age_core.specs.private.Scan.{IsScannedTo}
+use Rattle.age_core.proofs.scan.scan_on.Given as goal
 
 -- the bytes so far were scanned
 abbrev pub invariant-loop-seen : goal.invariant-loop-seen
-invariant-loop-seen l = IsSeen l.text l.seen l.place
+invariant-loop-seen l = IsScannedTo l.text l.seen l.place
 
 abbrev pub decreases-loop-seen : goal.decreases-loop-seen
 decreases-loop-seen l = length l.text - l.seen

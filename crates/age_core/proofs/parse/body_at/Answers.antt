@@ -1,7 +1,7 @@
 use Rattle.std.proofs.Common.{◌≡◌, ◌≢◌, ◌+◌, ◌-◌, length, take, drop, sym, ◌∙◌, arith}
 use Rattle.std.proofs.lemmas.List.{take_all, length-drop, length-take}
 use Rattle.age_core.proofs.Steps.{lines_long, lines_more, lines_bad, lines_last, lines_next, lines_out, line_more}
-use Rattle.age_core.proofs.scan.body_at.Goals as goal
+use Rattle.age_core.proofs.parse.body_at.Goals as goal
 
 pub returns-then-line-eq-LINE_LEN-clause-value : goal.returns-then-line-eq-LINE_LEN-clause-value
 returns-then-line-eq-LINE_LEN-clause-value c =

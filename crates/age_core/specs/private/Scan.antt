@@ -2,11 +2,11 @@
 -- The private functions compute it; no public clause cites it, and nothing here has to be believed.
 use Rattle.std.specs.Prelude.{◌≡◌, ℕ, ◌+◌, ◌≤◌, ◌==◌, ◌&&◌, ◌||◌, nat_le, Bool, if◌then◌else◌, List, [], ◌∷◌, length, take, drop}
 use Rattle.base64.specs.declared.engine.general_purpose.GeneralPurpose.{GeneralPurpose}
-use Rattle.age_core.specs.declared.front.Place.{Place}
-use Rattle.age_core.specs.declared.front.Place.TheVariants.{Start, Dash, Arrow, Gap, Word, Line}
-use Rattle.age_core.specs.declared.front.Step.{Step}
-use Rattle.age_core.specs.declared.front.Step.TheVariants.{To, End, Bad}
-use Rattle.age_core.specs.Scan.{is_visible, IsLineEngine}
+use Rattle.age_core.specs.declared.scan.Place.{Place}
+use Rattle.age_core.specs.declared.scan.Place.TheVariants.{Start, Dash, Arrow, Gap, Word, Line}
+use Rattle.age_core.specs.declared.scan.Step.{Step}
+use Rattle.age_core.specs.declared.scan.Step.TheVariants.{To, End, Bad}
+use Rattle.age_core.specs.private.Parse.{is_visible, IsLineEngine}
 
 -- one of the 64 characters, by their ranges
 abbrev pub is_character : ℕ → Bool
@@ -26,25 +26,25 @@ step (Line n) b =
 
 -- what a scan comes to: all bytes of the text and a place, the end of a stanza and what follows it,
 -- or a byte that no stanza has there
-pub data Sight : Type 0 where
-  At : (place : Place) → Sight
-  Whole : (rest : List ℕ) → Sight
-  Broken : Sight
+pub data ScanEnd : Type 0 where
+  At : (place : Place) → ScanEnd
+  Whole : (rest : List ℕ) → ScanEnd
+  Broken : ScanEnd
 
 -- the scan of a text behind a step
-unfoldable pub sight : Step → List ℕ → Sight
-sight (To place) [] = At place
-sight (To place) (b ∷ bs) = sight (step place b) bs
-sight End bs = Whole bs
-sight Bad bs = Broken
+unfoldable pub scan : Step → List ℕ → ScanEnd
+scan (To place) [] = At place
+scan (To place) (b ∷ bs) = scan (step place b) bs
+scan End bs = Whole bs
+scan Bad bs = Broken
 
 -- so many bytes of the text were scanned, and the next one stands at this place
-pub record IsSeen (text : List ℕ) (seen : ℕ) (place : Place) : Type 0 where
+pub record IsScannedTo (text : List ℕ) (seen : ℕ) (place : Place) : Type 0 where
   pub within : seen ≤ length text
-  pub place_is : sight (To Start) (take seen text) ≡ At place
+  pub place_is : scan (To Start) (take seen text) ≡ At place
 
 -- a reader's fields: what was given stands at the front of the buffer, and what follows was scanned so far
 pub record IsScanned (buffer : List ℕ) (given : ℕ) (engine : GeneralPurpose) (seen : ℕ) (place : Place) : Type 0 where
   pub given_within : given ≤ length buffer
   pub engine_is : IsLineEngine engine
-  pub seen_is : IsSeen (drop given buffer) seen place
+  pub seen_is : IsScannedTo (drop given buffer) seen place

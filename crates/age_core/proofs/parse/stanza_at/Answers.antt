@@ -3,7 +3,7 @@ use Rattle.std.specs.String.{string_bytes}
 use Rattle.std.proofs.lemmas.Bool.{eqb-true, eqb-false}
 use Rattle.std.proofs.lemmas.List.{nil_from_length}
 use Rattle.age_core.proofs.Stanzas.{no_prefix, reads_no_words, reads_no_tag, reads_no_body, reads_stanza, split_first}
-use Rattle.age_core.proofs.scan.stanza_at.Goals as goal
+use Rattle.age_core.proofs.parse.stanza_at.Goals as goal
 
 pub returns-in_default-clause-value : goal.returns-in_default-clause-value
 returns-in_default-clause-value c = sym (no_prefix c.args.engine.now c.requires c.args.text.now c.in_default.ensures.cases)

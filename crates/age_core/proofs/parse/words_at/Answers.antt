@@ -1,10 +1,10 @@
 use Rattle.std.proofs.Common.{◌≡◌, ℕ, ◌+◌, ◌-◌, ◌++◌, ◌∷◌, [], List, length, map, get_or, drop, sym, ap, ◌∙◌, arith, false, true, eqb}
 use Rattle.std.specs.String.{string_bytes}
 use Rattle.std.proofs.lemmas.List.{map_push, take_all, length-drop}
-use Rattle.age_core.specs.Scan.{words_from, is_visible}
+use Rattle.age_core.specs.private.Parse.{words_from, is_visible}
 use Rattle.age_core.proofs.Words.{passes_visible}
 use Rattle.age_core.proofs.Steps.{words_visible, words_empty, words_space, words_feed, words_other, words_out}
-use Rattle.age_core.proofs.scan.words_at.Goals as goal
+use Rattle.age_core.proofs.parse.words_at.Goals as goal
 
 pub loop-i-preserved-then-is_visible : goal.loop-i-preserved-then-is_visible
 loop-i-preserved-then-is_visible c =

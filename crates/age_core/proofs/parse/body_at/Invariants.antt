@@ -1,6 +1,6 @@
 use Rattle.std.proofs.Common.{◌≡◌, ◌+◌, ◌-◌, ◌≤◌, [], take, drop}
-use Rattle.age_core.specs.Scan.{lines_from}
-use Rattle.age_core.proofs.scan.body_at.Given as goal
+use Rattle.age_core.specs.private.Parse.{lines_from}
+use Rattle.age_core.proofs.parse.body_at.Given as goal
 
 -- the body so far, the line so far and what is left give what the text gives
 abbrev pub invariant-loop-i : goal.invariant-loop-i

@@ -3,7 +3,7 @@ use Rattle.std.specs.Result.{result_ok}
 use Rattle.std.proofs.lemmas.List.{take-append-drop}
 use Rattle.base64.specs.GeneralPurpose.{decoded_of}
 use Rattle.age_core.proofs.Cases.{bytes_from}
-use Rattle.age_core.proofs.scan.push_line.Goals as goal
+use Rattle.age_core.proofs.parse.push_line.Goals as goal
 
 pub returns-in-Ok-clause-value : goal.returns-in-Ok-clause-value
 unfolding decoded_of
