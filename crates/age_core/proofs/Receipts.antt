@@ -82,6 +82,10 @@ behind_piece now rest s last is e =
     let piece = last.4 in
     omega (arith, lt, sum, piece)
 
+-- at most 4095 bytes stand behind a stanza that wasn't held
+abbrev pub FewBehind : List ℕ → List ℕ → Type 0
+FewBehind before now = BeginsNone before → (stanza : Stanza) (rest : List ℕ) → IsStanza stanza → now ≡ spelling stanza ++ rest → length rest ≤ 4095
+
 -- nothing was read, or what is held ends in such a piece
 abbrev pub Last : {S : Type 0} → Held → Held → S → S → Type 0
 Last before now source_before source_now = ((now ≡ before) × (source_now ≡ source_before)) ⊎ EndsInPiece now.bytes
@@ -128,6 +132,10 @@ receives_both a b c l m n ss ts h k = record {
 took_none : (l : Option (List ℕ)) → Took l l []
 took_none None = tt
 took_none (Some text) = (text, refl, refl)
+
+-- stanzas were given, and none of them was a `done`
+abbrev pub GaveNoDone : Held → Held → Option (List ℕ) → Option (List ℕ) → Type 0
+GaveNoDone before now l m = (stanzas : List Stanza) × NoneDone stanzas × Receives before now l m stanzas
 
 -- nothing was received yet
 pub receives_none : (a : Held) (l : Option (List ℕ)) → Receives a a l l []

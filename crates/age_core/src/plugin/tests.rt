@@ -1,6 +1,8 @@
 //! What no clause says: that each call succeeds with memory, that the definitions mean what the format
 //! says, and in which order a phase calls its closures.
 
+ghost use Rattle.std.specs.Prelude.{◌≤◌};
+
 use super::*;
 use crate::format::Stanza;
 use crate::outside::{MemSink, MemSource, Sink, Source, StdSink, StdSource};

@@ -1,5 +1,7 @@
-//! What no clause says of the adapters: how often a call is repeated, that what was taken is
-//! flushed, and that the count stands still at its last value.
+//! What no clause says of the adapters: how often a call is repeated and when it is a fault, how much is
+//! asked for at once, and that what was taken is flushed. The reader and the writer count their calls.
+
+ghost use Rattle.std.specs.Prelude.{◌≤◌, IfOk};
 
 use super::*;
 use std::io;
@@ -14,195 +16,143 @@ enum Call {
     Breaks,
 }
 
-/// A reader that is interrupted so often, and whose next call goes so.
+/// The calls of a kind: how many come first that are interrupted, how the others go, and how many there were.
 #[derive(Drop)]
-struct Reader {
-    bytes: Vec<u8>,
-    at: usize,
+struct Calls {
     interruptions: u32,
     call: Call,
+    count: u32,
+}
+
+impl Calls {
+    fn new(interruptions: u32, call: Call) -> Calls {
+        Calls {
+            interruptions,
+            call,
+            count: 0,
+        }
+    }
+
+    /// One call, with room for so many bytes.
+    fn next(&mut self, room: usize) -> io::Result<usize>
+        ensures { IfOk result (λ n. n ≤ room) }
+    {
+        let number = self.count;
+        self.count = number.wrapping_add(1);
+        if number < self.interruptions {
+            return Err(io::Error::from(ErrorKind::Interrupted));
+        }
+        match self.call {
+            Call::Breaks => Err(io::Error::from(ErrorKind::BrokenPipe)),
+            Call::Moves(most) => Ok(room.min(most)),
+        }
+    }
+}
+
+/// A reader of zeros.
+#[derive(Drop)]
+struct Reader {
+    reads: Calls,
 }
 
 impl Read for Reader {
     fn read(&mut self, buffer: &mut [u8]) -> io::Result<usize> {
-        if self.interruptions > 0 {
-            self.interruptions -= 1;
-            return Err(io::Error::from(ErrorKind::Interrupted));
-        }
-        match self.call {
-            Call::Breaks => Err(io::Error::from(ErrorKind::BrokenPipe)),
-            Call::Moves(most) => {
-                let rest = &self.bytes[self.at.min(self.bytes.len())..];
-                let n = rest.len().min(buffer.len()).min(most);
-                buffer[..n].copy_from_slice(&rest[..n]);
-                self.at = self.at.saturating_add(n);
-                Ok(n)
-            }
-        }
+        self.reads.next(buffer.len())
     }
 }
 
-/// A writer that records what it takes, and how many of its bytes were flushed.
+/// A writer that counts what it takes.
 #[derive(Drop)]
 struct Writer {
-    got: Vec<u8>,
-    flushed: usize,
-    interruptions: u32,
-    flush_interruptions: u32,
-    call: Call,
-    can_flush: bool,
+    writes: Calls,
+    flushes: Calls,
 }
 
 impl Write for Writer {
     fn write(&mut self, piece: &[u8]) -> io::Result<usize> {
-        if self.interruptions > 0 {
-            self.interruptions -= 1;
-            return Err(io::Error::from(ErrorKind::Interrupted));
-        }
-        match self.call {
-            Call::Breaks => Err(io::Error::from(ErrorKind::BrokenPipe)),
-            Call::Moves(most) => {
-                let n = piece.len().min(most);
-                if self.got.extend_from_slice(&piece[..n]).is_err() {
-                    return Err(io::Error::from(ErrorKind::OutOfMemory));
-                }
-                Ok(n)
-            }
-        }
+        self.writes.next(piece.len())
     }
 
     fn flush(&mut self) -> io::Result<()> {
-        if self.flush_interruptions > 0 {
-            self.flush_interruptions -= 1;
-            return Err(io::Error::from(ErrorKind::Interrupted));
-        }
-        if !self.can_flush {
-            return Err(io::Error::from(ErrorKind::BrokenPipe));
-        }
-        self.flushed = self.got.len();
+        self.flushes.next(0)?;
         Ok(())
     }
 }
 
+/// Interruptions, how the call behind them goes, what a read of 5000 bytes answers, and how many calls
+/// of the reader there were.
+const READS: [(u32, Call, Result<usize, Failed>, u32); 7] = [
+    (0, Call::Moves(2), Ok(2), 1),
+    (0, Call::Moves(9000), Ok(4096), 1),
+    (0, Call::Moves(0), Ok(0), 1),
+    (16, Call::Moves(9), Ok(9), 17),
+    (17, Call::Moves(9), Err(Failed), 17),
+    (0, Call::Breaks, Err(Failed), 1),
+    (3, Call::Breaks, Err(Failed), 4),
+];
+
 #[test]
 fn a_read_is_repeated_sixteen_times(rt: HostRuntime) -> Result<(), Fail> {
-    for (interruptions, call, want, count) in [
-        (0, Call::Moves(2), Ok(2), 0),
-        (16, Call::Moves(9), Ok(3), 0),
-        (17, Call::Moves(9), Err(Failed), 1),
-        (0, Call::Breaks, Err(Failed), 1),
-        (0, Call::Moves(0), Ok(0), 0),
-    ] {
-        let mut source = StdSource::new(Reader {
-            bytes: b"abc".to_vec(rt.alloc())?,
-            at: 0,
-            interruptions,
-            call,
-        });
-        let mut buffer = [0u8; 4];
+    for (interruptions, call, want, count) in READS {
+        let mut reader = Reader {
+            reads: Calls::new(interruptions, call),
+        };
+        let mut source = StdSource::new(&mut reader);
+        let mut buffer = [0u8; 5000];
         assert_eq!(rt; source.read(&mut buffer), want, "{interruptions} {call:?}");
-        assert_eq!(rt; source.faults, count, "{interruptions} {call:?}");
+        assert_eq!(rt;
+            source.faults,
+            want.is_err() as u64,
+            "{interruptions} {call:?}"
+        );
+        assert_eq!(rt; reader.reads.count, count, "{interruptions} {call:?}");
     }
     Ok(())
 }
 
-#[test]
-fn no_byte_of_a_long_text_is_lost(rt: HostRuntime) -> Result<(), Fail> {
-    let mut text = Vec::new(rt.alloc());
-    for i in 0..20_000u32 {
-        text.push((i % 251) as u8)?;
-    }
-    let mut reader = Reader {
-        bytes: text.clone()?,
-        at: 0,
-        interruptions: 3,
-        call: Call::Moves(9000),
-    };
-    let mut source = StdSource::new(&mut reader);
-    let mut got = Vec::new(rt.alloc());
-    let mut buffer = [0u8; 9001];
-    for _ in 0..6 {
-        let Ok(n) = source.read(&mut buffer) else {
-            break;
-        };
-        got.extend_from_slice(&buffer[..n])?;
-    }
-    assert_eq!(rt; got.as_slice(), text.as_slice());
-    Ok(())
-}
+/// Interruptions of the write, how the call behind them goes, the same of the flush, what a write of three
+/// bytes answers, and how many calls of both kinds there were.
+const WRITES: [(u32, Call, u32, Call, Result<usize, Failed>, u32, u32); 9] = [
+    (0, Call::Moves(2), 0, Call::Moves(0), Ok(2), 1, 1),
+    (16, Call::Moves(9), 16, Call::Moves(0), Ok(3), 17, 17),
+    (17, Call::Moves(9), 0, Call::Moves(0), Err(Failed), 17, 0),
+    (3, Call::Breaks, 0, Call::Moves(0), Err(Failed), 4, 0),
+    (0, Call::Breaks, 0, Call::Moves(0), Err(Failed), 1, 0),
+    (0, Call::Moves(0), 0, Call::Moves(0), Err(Failed), 1, 0),
+    (0, Call::Moves(9), 17, Call::Moves(0), Err(Failed), 1, 17),
+    (0, Call::Moves(9), 3, Call::Breaks, Err(Failed), 1, 4),
+    (0, Call::Moves(9), 0, Call::Breaks, Err(Failed), 1, 1),
+];
 
 #[test]
 fn a_write_is_repeated_and_flushed(rt: HostRuntime) -> Result<(), Fail> {
-    for (interruptions, flush_interruptions, call, can_flush, want, got, flushed) in [
-        (0, 0, Call::Moves(2), true, Ok(2), b"ab".as_slice(), 2),
-        (16, 16, Call::Moves(9), true, Ok(3), b"abc", 3),
-        (17, 0, Call::Moves(9), true, Err(Failed), b"", 0),
-        (0, 17, Call::Moves(9), true, Err(Failed), b"abc", 0),
-        (0, 0, Call::Moves(2), false, Err(Failed), b"ab", 0),
-        (0, 0, Call::Moves(0), true, Err(Failed), b"", 0),
-        (0, 0, Call::Breaks, true, Err(Failed), b"", 0),
-    ] {
+    for (interruptions, call, flush_interruptions, flush, want, writes, flushes) in WRITES {
         let mut writer = Writer {
-            got: Vec::new(rt.alloc()),
-            flushed: 0,
-            interruptions,
-            flush_interruptions,
-            call,
-            can_flush,
+            writes: Calls::new(interruptions, call),
+            flushes: Calls::new(flush_interruptions, flush),
         };
         let mut sink = StdSink::new(&mut writer);
         assert_eq!(rt; sink.write(b""), Ok(0));
         assert_eq!(rt;
             sink.write(b"abc"),
             want,
-            "{interruptions} {flush_interruptions} {call:?}"
+            "{interruptions} {flush_interruptions}"
         );
         assert_eq!(rt;
             sink.faults,
             want.is_err() as u64,
-            "{interruptions} {flush_interruptions} {call:?}"
+            "{interruptions} {flush_interruptions}"
         );
         assert_eq!(rt;
-            writer.got.as_slice(),
-            got,
-            "{interruptions} {flush_interruptions} {call:?}"
+            writer.writes.count,
+            writes,
+            "{interruptions} {flush_interruptions}"
         );
         assert_eq!(rt;
-            writer.flushed,
-            flushed,
-            "{interruptions} {flush_interruptions} {call:?}"
+            writer.flushes.count,
+            flushes,
+            "{interruptions} {flush_interruptions}"
         );
-    }
-    Ok(())
-}
-
-#[test]
-fn the_counts_stand_still_at_their_last_value(rt: HostRuntime) -> Result<(), Fail> {
-    let mut source = StdSource {
-        reader: Reader {
-            bytes: Vec::new(rt.alloc()),
-            at: 0,
-            interruptions: 0,
-            call: Call::Breaks,
-        },
-        faults: u64::MAX - 1,
-    };
-    let mut sink = StdSink {
-        writer: Writer {
-            got: Vec::new(rt.alloc()),
-            flushed: 0,
-            interruptions: 0,
-            flush_interruptions: 0,
-            call: Call::Breaks,
-            can_flush: true,
-        },
-        faults: u64::MAX - 1,
-    };
-    for _ in 0..2 {
-        assert_eq!(rt; source.read(&mut [0]), Err(Failed));
-        assert_eq!(rt; source.faults, u64::MAX);
-        assert_eq!(rt; sink.write(b"a"), Err(Failed));
-        assert_eq!(rt; sink.faults, u64::MAX);
     }
     Ok(())
 }

@@ -8,7 +8,7 @@ use Rattle.age_core.specs.Reading.{NoneDone}
 use Rattle.age_core.specs.Receiving.{Receives}
 use Rattle.age_core.specs.Connecting.{source_of, held_by}
 use Rattle.age_core.specs.Phases.{Commands, for_a, for_b, for_c, for_d, without_command}
-use Rattle.age_core.proofs.Receipts.{receives_none, receives_both, receives_less, little_more, held_more, held_unread}
+use Rattle.age_core.proofs.Receipts.{GaveNoDone, receives_none, receives_both, receives_less, little_more, held_more, held_unread}
 use Rattle.age_core.proofs.Commands.{for_a-append, for_b-append, for_c-append, for_d-append, if_asked, may_next, on_err, err_as, same_err, none_done-push, not_done, is_done}
 use Rattle.age_core.proofs.plugin.connection.Connection.unidir_receive.Goals as goal
 
@@ -34,7 +34,7 @@ returns-in_err-stanza-clause-refused g c =
     let left = g.R.Source.left in
     let taken = c.loop-running.invariant.taken in
     let both = receives_both (held_by c.args.self.now) (held_by c.loop-running.self) (held_by c.receive.new.self) (left (source_of c.args.self.now)) (left (source_of c.loop-running.self)) (left (source_of c.receive.new.self)) (map stanza_of taken.0) [] taken.2 c.in_err-stanza.ensures.kept in
-    on_err c.from_residual.result (map stanza_of taken.0, taken.1, subst (λ ss. Receives (held_by c.args.self.now) (held_by c.receive.new.self) (left (source_of c.args.self.now)) (left (source_of c.receive.new.self)) ss) (append-nil (map stanza_of taken.0)) both)
+    on_err {P = GaveNoDone (held_by c.args.self.now) (held_by c.receive.new.self) (left (source_of c.args.self.now)) (left (source_of c.receive.new.self))} c.from_residual.result (map stanza_of taken.0, taken.1, subst (λ ss. Receives (held_by c.args.self.now) (held_by c.receive.new.self) (left (source_of c.args.self.now)) (left (source_of c.receive.new.self)) ss) (append-nil (map stanza_of taken.0)) both)
 
 pub returns-then-has_tag-clause-done : goal.returns-then-has_tag-clause-done
 returns-then-has_tag-clause-done g c =
@@ -57,7 +57,7 @@ returns-in_err-running-clause-refused g c =
     let left = g.R.Source.left in
     let taken = c.loop-running.invariant.taken in
     let stanza = c.in_ok-stanza.stanza in
-    on_err c.from_residual-in_err-running.result (
+    on_err {P = GaveNoDone (held_by c.args.self.now) (held_by c.receive.new.self) (left (source_of c.args.self.now)) (left (source_of c.receive.new.self))} c.from_residual-in_err-running.result (
       map stanza_of taken.0 ++ stanza_of stanza ∷ [],
       none_done-push (map stanza_of taken.0) (stanza_of stanza) taken.1 (not_done (string_bytes stanza.tag) (sym c.has_tag.ensures ∙ c.if-has_tag.false)),
       receives_both (held_by c.args.self.now) (held_by c.loop-running.self) (held_by c.receive.new.self) (left (source_of c.args.self.now)) (left (source_of c.loop-running.self)) (left (source_of c.receive.new.self)) (map stanza_of taken.0) (stanza_of stanza ∷ []) taken.2 c.in_ok-stanza.ensures.given,

@@ -3,7 +3,7 @@ use Rattle.age_core.specs.declared.plugin.PhaseError.TheVariants.{ReadFault}
 use Rattle.age_core.specs.Stanza.{IsFront, stanza_of}
 use Rattle.age_core.specs.Receiving.{Held}
 use Rattle.age_core.proofs.Commands.{on_err, err_as, same_err}
-use Rattle.age_core.proofs.Receipts.{receives_none, receives_both, receives_read, receives_held, behind_last, little_behind}
+use Rattle.age_core.proofs.Receipts.{FewBehind, receives_none, receives_both, receives_read, receives_held, behind_last, little_behind}
 use Rattle.age_core.proofs.plugin.reader.StanzaReader.receive_from.Goals as goal
 
 pub loop-stanza-init : goal.loop-stanza-init
@@ -44,13 +44,13 @@ returns-in-Stanza-clause-behind g c =
 pub returns-in_err-stanza-clause-behind_refusal : goal.returns-in_err-stanza-clause-behind_refusal
 returns-in_err-stanza-clause-behind_refusal g c =
     let same = sym c.in_err-stanza.ensures.memory in
-    on_err c.from_residual.result (λ none stanza rest is e. behind_last c.args.self.now c.loop-stanza.self c.args.source.now c.loop-stanza.source rest stanza c.loop-stanza.invariant.last is (same ∙ e) none)
+    on_err {P = FewBehind c.args.self.now.bytes c.look.new.self.bytes} c.from_residual.result (λ none stanza rest is e. behind_last c.args.self.now c.loop-stanza.self c.args.source.now c.loop-stanza.source rest stanza c.loop-stanza.invariant.last is (same ∙ e) none)
 
 pub returns-in_err-read_piece-in-Front-clause-behind_refusal : goal.returns-in_err-read_piece-in-Front-clause-behind_refusal
 returns-in_err-read_piece-in-Front-clause-behind_refusal g c =
     let front = c.in_ok-stanza.ensures.front c.in-Front.is in
     let held : c.read_piece.new.self.bytes ≡ c.loop-stanza.self.bytes = ap (λ (h : Held). h.bytes) c.in_err-read_piece-in-Front.ensures.unread.0 ∙ front.1 in
-    on_err c.from_residual-in_err-read_piece-in-Front.result (λ none stanza rest is e. behind_last c.args.self.now c.loop-stanza.self c.args.source.now c.loop-stanza.source rest stanza c.loop-stanza.invariant.last is (sym held ∙ e) none)
+    on_err {P = FewBehind c.args.self.now.bytes c.read_piece.new.self.bytes} c.from_residual-in_err-read_piece-in-Front.result (λ none stanza rest is e. behind_last c.args.self.now c.loop-stanza.self c.args.source.now c.loop-stanza.source rest stanza c.loop-stanza.invariant.last is (sym held ∙ e) none)
 
 pub returns-in_err-read_piece-in-Front-clause-no_fault : goal.returns-in_err-read_piece-in-Front-clause-no_fault
 returns-in_err-read_piece-in-Front-clause-no_fault g c other = c.in_err-read_piece-in-Front.ensures.no_fault (λ is. other (err_as c.from_residual-in_err-read_piece-in-Front.result c.in_err-read_piece-in-Front.field-0.0 ReadFault c.from_residual-in_err-read_piece-in-Front.ensures.1 (same_err _ _ is))) ∙ c.loop-stanza.invariant.no_fault
