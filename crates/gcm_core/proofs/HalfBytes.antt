@@ -5,7 +5,7 @@ use Rattle.std.specs.Prelude.{bit_and, bit_xor}
 use Rattle.std.proofs.lemmas.Simd.{zip2_of_maps}
 use lib.Lanes.{zip2}
 use Rattle.gcm_core.specs.declared.nibbles.TheConstants.{TO_LOW, TO_HIGH, RECIPROCAL, SCALED}
-use Rattle.gcm_core.specs.Nibbles.{changed, entry_of, first_half, second_half}
+use Rattle.gcm_core.specs.private.Nibbles.{changed, entry_of, first_half, second_half}
 use Rattle.gcm_core.proofs.Lanes.{IsLanes, looked, with_splat}
 
 abbrev pub down : ℕ → ℕ → ℕ

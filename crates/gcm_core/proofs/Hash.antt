@@ -9,7 +9,8 @@ use lib.Bits.{xor_assoc, xor_zero_r}
 use Rattle.gcm_core.proofs.Fields.{Reduces, picked, product_of-by_one, product_of-lt, product_of-of_xor, product_of-one, product_of_comm, product_of-more, product_of-next, product_of-xor, product_of-zero, product_of_assoc, times_x-high, times_x-low}
 use Rattle.gcm_core.specs.FieldMul.{product_of, times_x}
 use Rattle.gcm_core.specs.Gcm.{authenticated, padded}
-use Rattle.gcm_core.specs.Ghash.{block_power, block_product, continued, polynomial_of, polynomials, reduction_block, weighted_sum}
+use Rattle.gcm_core.specs.Ghash.{block_power, block_product, polynomial_of, polynomials, reduction_block, weighted_sum}
+use Rattle.gcm_core.specs.private.Continued.{continued}
 
 -- ---- the field GF(2^128)
 

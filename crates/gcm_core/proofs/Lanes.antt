@@ -7,7 +7,7 @@ use Rattle.std.proofs.lemmas.Bool.Decides.{nat_tests}
 use Rattle.std.proofs.lemmas.List.FromFn.{get_or-map-range_with_len}
 use Rattle.std.proofs.lemmas.Simd.{Each1-weaker, SwzOk, SwzOk-from_Each1, below_from_Fits, map-map, splat_is_map, swz_l, zip2_of_maps}
 use lib.Lanes.{Each1, zip2}
-use Rattle.gcm_core.specs.Nibbles.{entry_of, is_place}
+use Rattle.gcm_core.specs.private.Nibbles.{entry_of, is_place}
 
 -- the bytes of a block in lanes
 abbrev pub IsLanes : List ℕ → Type 0

@@ -9,7 +9,7 @@ use Rattle.std.proofs.lemmas.List.{length-map}
 use Rattle.std.proofs.lemmas.Simd.{pick_l_whole}
 use lib.Lanes.{number_l}
 use Rattle.gcm_core.specs.Ghash.{block_of, polynomial_of}
-use Rattle.gcm_core.specs.Nibbles.{entry_of}
+use Rattle.gcm_core.specs.private.Nibbles.{entry_of}
 use Rattle.gcm_core.specs.declared.ghash.TheConstants.{REVERSED_HIGH, REVERSED_LOW}
 use Rattle.gcm_core.proofs.Lanes.{at_each_byte}
 use Rattle.gcm_core.proofs.Sums.{AreBytes}

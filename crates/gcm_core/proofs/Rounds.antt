@@ -6,7 +6,7 @@ use Rattle.std.proofs.lemmas.Simd.{Each1-get_or, below_from_Fits, get_or-zip2, g
 use lib.Lanes.{all_below, chunk, pick_l, zip2}
 use Rattle.gcm_core.specs.Aes.{add_round_key, byte_product, cipher, inverse, mix_columns, round_count, s_box, shift_rows, state_after, state_byte, sub_bytes, sub_word}
 use Rattle.gcm_core.specs.FieldMul.{product_of, times_x}
-use Rattle.gcm_core.specs.Nibbles.{once, twice}
+use Rattle.gcm_core.specs.private.Nibbles.{once, twice}
 use Rattle.gcm_core.specs.declared.aes.TheConstants.{SHIFTED, SHIFTED_1, SHIFTED_2, SHIFTED_3}
 use Rattle.gcm_core.proofs.Bytes.{byte_product-three, byte_product-two}
 use Rattle.gcm_core.proofs.Lanes.{IsLanes, at_each_byte, map-bytes}

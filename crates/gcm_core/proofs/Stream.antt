@@ -10,7 +10,7 @@ use borrow.Rule.Slice.PartMut.{post_of, put_mid}
 use lib.Lanes.{zip2}
 use lib.Bits.{xor_assoc, xor_self, xor_zero_r}
 use Rattle.gcm_core.specs.Aes.{xor_bytes}
-use Rattle.gcm_core.specs.Counters.{counter_after}
+use Rattle.gcm_core.specs.private.Counters.{counter_after}
 use Rattle.gcm_core.specs.Gcm.{gctr, gctr_blocks, inc32}
 
 -- ---- a counter block

@@ -16,8 +16,8 @@ use Rattle.gcm_core.proofs.Hash.{block_product-lt, block_product-xor, block_prod
 use Rattle.gcm_core.proofs.Lanes.{at_each_byte}
 use Rattle.gcm_core.proofs.Shifts.{folded, folded-step, product-raised, raised, raised-low, raised-lt, raised-xor, raised-zero}
 use Rattle.gcm_core.specs.Ghash.{block_product}
-use Rattle.gcm_core.specs.Nibbles.{entry_of}
-use Rattle.gcm_core.specs.Rows.{IsRows, byte_of, factor_of, row_at}
+use Rattle.gcm_core.specs.private.Nibbles.{entry_of}
+use Rattle.gcm_core.specs.private.Rows.{IsRows, byte_of, factor_of, row_at}
 
 abbrev pub AreBytes : List ℕ → Type 0
 AreBytes cs = Each1 (λ x. x < 256) cs

@@ -38,9 +38,3 @@ weighted_sum h (x ∷ xs) = bit_xor (block_product x (block_power h (length xs +
 -- GHASH of the whole blocks x under the hash subkey (6.4)
 unfoldable pub ghash : List ℕ → List ℕ → List ℕ
 ghash subkey x = block_of (weighted_sum (polynomial_of subkey) (polynomials (length x / 16) x))
-
--- ---- the sum taken in piece by piece
-
--- the sum over blocks that have given the sum y, and over the further blocks xs
-abbrev pub continued : ℕ → ℕ → List ℕ → ℕ
-continued h y xs = bit_xor (block_product y (block_power h (length xs))) (weighted_sum h xs)

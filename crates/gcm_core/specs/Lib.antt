@@ -6,9 +6,5 @@ pub mod Aes
 pub mod Ghash
 -- sealing and opening
 pub mod Gcm
--- SubBytes by half bytes, which private functions compute
-pub mod Nibbles
--- counter blocks further on, which private functions compute
-pub mod Counters
--- products by rows, which private functions compute
-pub mod Rows
+-- what private functions compute: nothing in it has to be believed
+pub mod private

@@ -1,4 +1,4 @@
-// The block cipher AES under a key of 16, 24 or 32 bytes (FIPS 197).
+//! The block cipher AES under a key of 16, 24 or 32 bytes (FIPS 197).
 
 ghost use Rattle.std.specs.Prelude.{◌≡◌, ◌+◌, ◌*◌, ◌%◌, ◌<◌, ◌≤◌, length, take};
 ghost use Rattle.gcm_core.specs.Aes.{add_round_key, cipher, key_expansion, mix_columns, schedule_term, shift_rows, sub_bytes, sub_word, word_at, xor_bytes};

@@ -1,4 +1,4 @@
-// Why a text is not sealed or opened.
+//! Why a text is not sealed or opened.
 
 use thiserror::Error;
 

@@ -1,12 +1,13 @@
-// GCM over a key schedule and its hash subkey, with a nonce of 12 bytes (SP 800-38D). A key of another
-// size is another schedule.
+//! GCM over a key schedule and its hash subkey, with a nonce of 12 bytes (SP 800-38D). A key of another
+//! size is another schedule.
 
 ghost use Rattle.std.specs.Prelude.{◌≡◌, ◌↔◌, ◌+◌, ◌-◌, ◌*◌, ◌/◌, ◌%◌, ◌^◌, ◌<◌, ◌≤◌, ◌++◌, ◌≢◌, ◌⊎◌, IsErr, IsTrue, None, OnErr, OnOk, Some, length, replicate};
 ghost use Rattle.std.specs.Int.{div_ceil};
 ghost use Rattle.gcm_core.specs.Aes.{cipher, xor_bytes};
 ghost use Rattle.gcm_core.specs.Gcm.{gcm_ad, gcm_ae, gctr, gctr_blocks, inc32, j0, padded, tag_of};
-ghost use Rattle.gcm_core.specs.Counters.{counter_after};
-ghost use Rattle.gcm_core.specs.Ghash.{continued, polynomial_of, polynomials};
+ghost use Rattle.gcm_core.specs.private.Counters.{counter_after};
+ghost use Rattle.gcm_core.specs.Ghash.{polynomial_of, polynomials};
+ghost use Rattle.gcm_core.specs.private.Continued.{continued};
 
 use crate::aes::{BLOCK_LEN, Block, cipher, cipher_four};
 use crate::error::{NotAuthentic, TooLong};

@@ -1,10 +1,11 @@
-// GHASH over associated data and a ciphertext (SP 800-38D, section 6.4).
+//! GHASH over associated data and a ciphertext (SP 800-38D, section 6.4).
 
 ghost use Rattle.std.specs.Prelude.{◌≡◌, ◌+◌, ◌*◌, ◌/◌, ◌%◌, ◌^◌, ◌<◌, ◌++◌, ℕ, List, bit_xor, drop, length, map, take};
 ghost use Rattle.std.specs.Int.{div_ceil, reverse_bits, to_be_bytes, w8, w64};
 ghost use Rattle.gcm_core.specs.FieldMul.{times_x};
 ghost use Rattle.gcm_core.specs.Gcm.{authenticated, padded};
-ghost use Rattle.gcm_core.specs.Ghash.{block_of, block_product, continued, polynomial_of, polynomials, reduction_block, weighted_sum};
+ghost use Rattle.gcm_core.specs.Ghash.{block_of, block_product, polynomial_of, polynomials, reduction_block, weighted_sum};
+ghost use Rattle.gcm_core.specs.private.Continued.{continued};
 
 use crate::aes::{BLOCK_LEN, Block};
 use crate::hash_key::{HashKey, lanes_of, number_of};

@@ -1,14 +1,14 @@
-// The hash subkey of GHASH with rows of its products, which are looked up in registers, so that no
-// address depends on a text.
-//
-// A product is the sum, over the bytes of one factor, of each byte's product with the subkey, moved up
-// by the byte's place. Row b holds byte b of the products of the 16 low half bytes, and then of the 16
-// high ones; looked up at all bytes of the factor together it gives byte b of each byte's product.
+//! The hash subkey of GHASH with rows of its products, which are looked up in registers, so that no
+//! address depends on a text.
+//!
+//! A product is the sum, over the bytes of one factor, of each byte's product with the subkey, moved up
+//! by the byte's place. Row b holds byte b of the products of the 16 low half bytes, and then of the 16
+//! high ones; looked up at all bytes of the factor together it gives byte b of each byte's product.
 
 ghost use Rattle.std.specs.Prelude.{◌≡◌, ◌+◌, ◌*◌, ◌/◌, ◌%◌, ◌^◌, ◌<◌, ℕ, bit_xor, length, map, slice_index};
 ghost use Rattle.std.specs.Simd.Lanes.{Each1, number_l};
 ghost use Rattle.gcm_core.specs.Ghash.{block_product};
-ghost use Rattle.gcm_core.specs.Rows.{IsRows, byte_of, factor_of, row_at};
+ghost use Rattle.gcm_core.specs.private.Rows.{IsRows, byte_of, factor_of, row_at};
 
 use crate::aes::BLOCK_LEN;
 use crate::ghash::byte_times;
@@ -41,7 +41,7 @@ pub(crate) struct HashKey {
 
 impl Model for HashKey {
     ghost use Rattle.std.specs.Prelude.{◌<◌, ◌^◌, ℕ};
-    ghost use Rattle.gcm_core.specs.Rows.{IsRows};
+    ghost use Rattle.gcm_core.specs.private.Rows.{IsRows};
 
     ghost Value = { ℕ };
 

@@ -1,4 +1,4 @@
-// What holds of the definitions that the contracts of this crate cite.
+//! What holds of the definitions that the contracts of this crate cite.
 
 ghost use Rattle.std.specs.Prelude.{◌≡◌, ◌↔◌, ◌+◌, ◌^◌, ◌<◌, ◌∷◌, ◌++◌, [], ℕ, List, Some, bit_xor, length, map, replicate};
 ghost use Rattle.std.specs.List.{range_with_len};

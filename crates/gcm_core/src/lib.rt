@@ -1,5 +1,5 @@
-// AES-128-GCM and AES-256-GCM: authenticated encryption with associated data, in place and without memory
-// (FIPS 197, NIST SP 800-38D).
+//! AES-128-GCM and AES-256-GCM: authenticated encryption with associated data, in place and without memory
+//! (FIPS 197, NIST SP 800-38D).
 #![tactic(auto)]
 
 mod aes;
@@ -8,11 +8,10 @@ mod error;
 mod gcm;
 mod ghash;
 mod hash_key;
-mod keyed;
 pub mod laws;
 mod nibbles;
 #[cfg(test)]
 mod tests;
 
-pub use aes_gcm::{AesGcm128Impl, AesGcm256Impl};
+pub use aes_gcm::{AesGcm, AesGcm128Impl, AesGcm256Impl};
 pub use error::{NotAuthentic, TooLong};

@@ -1,12 +1,12 @@
-// SubBytes on all bytes of a block at once, by look-ups of 16 entries that are held in registers, so
-// that no address depends on a byte.
-//
-// A byte is an element of GF(2^8), which is also GF((2^4)^2): the inverse is taken by inverses in
-// GF(2^4), whose elements are half bytes.
+//! SubBytes on all bytes of a block at once, by look-ups of 16 entries that are held in registers, so
+//! that no address depends on a byte.
+//!
+//! A byte is an element of GF(2^8), which is also GF((2^4)^2): the inverse is taken by inverses in
+//! GF(2^4), whose elements are half bytes.
 
 ghost use Rattle.std.specs.Prelude.{◌≡◌, IsTrue, map};
 ghost use Rattle.std.specs.Simd.Lanes.{Each1};
-ghost use Rattle.gcm_core.specs.Nibbles.{is_place, entry_of, once, twice};
+ghost use Rattle.gcm_core.specs.private.Nibbles.{is_place, entry_of, once, twice};
 
 use std::simd::prelude::*;
 

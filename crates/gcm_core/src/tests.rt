@@ -1,4 +1,4 @@
-// Sealing and opening against answers from outside.
+//! Sealing and opening against answers from outside.
 
 use crate::{AesGcm128Impl, AesGcm256Impl, NotAuthentic, TooLong, laws};
 use std::process::Abort;

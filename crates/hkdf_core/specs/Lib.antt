@@ -4,5 +4,5 @@ pub mod Hmac
 pub mod Hkdf
 -- what the two streaming types have been fed
 pub mod Fed
--- that digests of SHA-256, SHA-384 and SHA-512 are bytes
-pub mod Digests
+-- proofs that an `impl` cites: no definitions, and nothing in it has to be believed
+pub mod private

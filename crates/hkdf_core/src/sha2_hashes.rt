@@ -45,7 +45,7 @@ impl HkdfHash for HashSha256 {
 
     ghost use Rattle.std.proofs.Common.{rules, refl, inl, inr};
     ghost use Rattle.sha2.proofs.Facts256.{length-sha256};
-    ghost use Rattle.hkdf_core.specs.Digests.{sha256_is_bytes};
+    ghost use Rattle.hkdf_core.specs.private.Digests.{sha256_is_bytes};
 
     ghost digest_size_in_range = { Prim.search rules };
 
@@ -93,7 +93,7 @@ impl HkdfHash for HashSha384 {
 
     ghost use Rattle.std.proofs.Common.{rules, refl, inl, inr};
     ghost use Rattle.sha2.proofs.Facts512.{length-sha384};
-    ghost use Rattle.hkdf_core.specs.Digests.{sha384_is_bytes};
+    ghost use Rattle.hkdf_core.specs.private.Digests.{sha384_is_bytes};
 
     ghost digest_size_in_range = { Prim.search rules };
 
@@ -141,7 +141,7 @@ impl HkdfHash for HashSha512 {
 
     ghost use Rattle.std.proofs.Common.{rules, refl, inl, inr};
     ghost use Rattle.sha2.proofs.Facts512.{length-sha512};
-    ghost use Rattle.hkdf_core.specs.Digests.{sha512_is_bytes};
+    ghost use Rattle.hkdf_core.specs.private.Digests.{sha512_is_bytes};
 
     ghost digest_size_in_range = { Prim.search rules };
 

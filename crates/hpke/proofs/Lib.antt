@@ -1,4 +1,5 @@
 mod BothSides
+mod LatticeRefusals
 mod Schedules
 mod SingleShots
 mod Xor

@@ -3,7 +3,7 @@ use Rattle.std.proofs.Common.{◌≡◌, ℕ, zero, suc, ◌<◌, List, [], ◌�
 use Rattle.std.specs.Prelude.{bit_xor}
 use Rattle.std.proofs.lemmas.List.{ext_get_or}
 use Rattle.hpke.specs.Bytes.{xor_bytes}
-use Rattle.hpke.specs.MaskLaws.{length-xor_bytes}
+use Rattle.hpke.specs.private.MaskLaws.{length-xor_bytes}
 
 pub get_or-xor_bytes : (xs ys : List ℕ) (k : ℕ) → k < length xs → k < length ys → get_or (xor_bytes xs ys) k 0 ≡ bit_xor (get_or xs k 0) (get_or ys k 0)
 get_or-xor_bytes [] ys k lt lt' = absurd (omega (arith, lt))

@@ -20,9 +20,7 @@ pub mod Messages
 pub mod SingleShot
 -- the test KEM
 pub mod Mask
--- the laws of the test KEM: proofs, and no definitions
-pub mod MaskLaws
 -- the KEM of ML-KEM
 pub mod Lattice
--- the laws of the KEM of ML-KEM: proofs, and no definitions
-pub mod LatticeLaws
+-- proofs that an `impl` cites: no definitions, and nothing in it has to be believed
+pub mod private

@@ -7,8 +7,8 @@ use Rattle.hpke.specs.Answers.{Answers, AnswersExactly}
 use Rattle.hpke.specs.Nonce.{number_after}
 use Rattle.hpke.specs.Schedule.{Context}
 
--- The limit where no number is left, and else what the call means under the next number, or this
--- error. Want of memory is free.
+-- The limit where no number is left, which takes no memory, and else what the call means under the next
+-- number, or this error. There want of memory is free.
 abbrev pub NumberedAnswers : {X Y : Type 0} → (X → Y) → HpkeError → Result X HpkeError → Option ℕ → (ℕ → Option Y) → Type 0
 NumberedAnswers view error result None meaning = Answers view MessageLimitReached result None
 NumberedAnswers view error result (Some number) meaning = Answers view error result (meaning number)

@@ -5,9 +5,9 @@ use Rattle.hpke.specs.declared.error.HpkeError.TheVariants.{NoMemory, MessageLim
 
 -- Bytes of the length `given`, for a type whose values have `expected` bytes, are refused by this
 -- error: first for another length, then where no value has them. Want of memory is free where the
--- reading takes memory.
+-- length is right and the reading takes memory.
 abbrev pub IsRefusal : Type 0 → ℕ → ℕ → Type 0 → HpkeError → Type 0
-IsRefusal takes_memory expected given has_value NoMemory = takes_memory
+IsRefusal takes_memory expected given has_value NoMemory = takes_memory × (given ≡ expected)
 IsRefusal takes_memory expected given has_value (IncorrectInputLength e g) = (given ≢ expected) × (e ≡ expected) × (g ≡ given)
 IsRefusal takes_memory expected given has_value ValidationError = (given ≡ expected) × (has_value → ⊥)
 IsRefusal takes_memory expected given has_value MessageLimitReached = ⊥

@@ -48,21 +48,21 @@ impl<A: Aead, D: Kdf, K> Model for AeadCtx<A, D, K> {
 }
 
 impl<A: Aead, D: Kdf, K> AeadCtx<A, D, K> {
-    /// The number of the next message.
+    // The number of the next message.
     fn number(&self) -> Option<u64>
         ensures { result ≡ self.now.next }
     {
         self.number
     }
 
-    /// The context once this number, its next one, was used.
+    // The context once this number, its next one, was used.
     fn raise(&mut self, number: u64)
         ensures { self.new ≡ record self.old { next = number_after number } }
     {
         self.number = number.checked_add(1);
     }
 
-    /// The nonce of the message of this number.
+    // The nonce of the message of this number.
     fn nonce(&self, number: u64) -> ShortBytes
         ensures value { result ≡ nonce_of self.now.base_nonce number }
         ensures size { length result ≡ A.AeadImpl.NONCE_SIZE }
@@ -70,8 +70,8 @@ impl<A: Aead, D: Kdf, K> AeadCtx<A, D, K> {
         nonce(&self.base_nonce, number)
     }
 
-    /// Seals a text in place under this number, and gives its tag. `SealError` comes exactly where
-    /// `seal_of` is none, and leaves the text as it was.
+    // Seals a text in place under this number, and gives its tag. `SealError` comes exactly where
+    // `seal_of` is none, and leaves the text as it was.
     fn seal_in_place(
         &self,
         number: u64,
@@ -94,8 +94,8 @@ impl<A: Aead, D: Kdf, K> AeadCtx<A, D, K> {
         }
     }
 
-    /// Opens a ciphertext in place under this number, by its tag. `OpenError` comes exactly where
-    /// `open_of` is none, and leaves the ciphertext as it was.
+    // Opens a ciphertext in place under this number, by its tag. `OpenError` comes exactly where
+    // `open_of` is none, and leaves the ciphertext as it was.
     fn open_in_place(
         &self,
         number: u64,
@@ -118,8 +118,8 @@ impl<A: Aead, D: Kdf, K> AeadCtx<A, D, K> {
         }
     }
 
-    /// The text sealed under this number, with its tag. `SealError` comes exactly where `seal_of` is
-    /// none.
+    // The text sealed under this number, with its tag. `SealError` comes exactly where `seal_of` is
+    // none.
     fn seal_at(
         &self,
         alloc: Global,
@@ -136,8 +136,8 @@ impl<A: Aead, D: Kdf, K> AeadCtx<A, D, K> {
         Ok(sealed)
     }
 
-    /// The text that this one, with its tag, opens to under this number. `OpenError` comes exactly
-    /// where `open_of` is none.
+    // The text that this one, with its tag, opens to under this number. `OpenError` comes exactly
+    // where `open_of` is none.
     fn open_at(
         &self,
         alloc: Global,
@@ -155,7 +155,7 @@ impl<A: Aead, D: Kdf, K> AeadCtx<A, D, K> {
         Ok(text)
     }
 
-    /// The same context at this number.
+    // The same context at this number.
     fn with_number(self, number: u64) -> AeadCtx<A, D, K>
         ensures { result ≡ record self { next = Some number } }
     {
@@ -167,7 +167,7 @@ impl<A: Aead, D: Kdf, K> AeadCtx<A, D, K> {
 }
 
 impl<A: Aead, D: Kdf, K: Kem> AeadCtx<A, D, K> {
-    /// Fills `out_buf` with the secret that the context exports (RFC 9180, section 5.3).
+    // Fills `out_buf` with the secret that the context exports (RFC 9180, section 5.3).
     fn export(&self, exporter_ctx: &[u8], out_buf: &mut [u8]) -> Result<(), HpkeError>
         ensures too_long { IsErr result ↔ (MAX_OUTPUT_BLOCKS * D.HashImpl.DIGEST_SIZE < length out_buf.old) }
         ensures error { IfErr result (λ e. e ≡ KdfOutputTooLong) }
@@ -225,7 +225,7 @@ impl<A: Aead, D: Kdf, K> AeadCtxS<A, D, K> {
     /// Seals a text under the next number: the ciphertext and then the tag (RFC 9180, section 5.2).
     ///
     /// `MessageLimitReached` comes exactly where number `u64::MAX` was used, then `SealError` exactly
-    /// where `seal_of` is none. A refused call leaves the context as it was.
+    /// where `seal_of` is none; `NoMemory` is free. A refused call leaves the context as it was.
     pub fn seal(
         &mut self,
         alloc: Global,
@@ -327,8 +327,8 @@ impl<A: Aead, D: Kdf, K> AeadCtxR<A, D, K> {
     /// Opens a ciphertext that its tag follows, under the next number (RFC 9180, section 5.2).
     ///
     /// `OpenError` comes first for a text shorter than a tag; then `MessageLimitReached` exactly where
-    /// number `u64::MAX` was used; then `OpenError` exactly where `open_of` is none. A refused call
-    /// leaves the context as it was.
+    /// number `u64::MAX` was used; then `OpenError` exactly where `open_of` is none; `NoMemory` is free
+    /// for a text that isn't shorter than a tag. A refused call leaves the context as it was.
     pub fn open(
         &mut self,
         alloc: Global,

@@ -1,6 +1,6 @@
 //! Key encapsulation mechanisms (RFC 9180, section 4).
 
-ghost use Rattle.std.specs.Prelude.{◌≡◌, ◌⊎◌, ℕ, List, length, Option, None, Some, Err, IfOk, IsSome, is_some};
+ghost use Rattle.std.specs.Prelude.{◌≡◌, ◌⊎◌, ℕ, List, length, Option, None, Some, Err, IfOk, IsErr, IsSome, is_some};
 ghost use Rattle.std.specs.Option.{option_map};
 ghost use Rattle.rand_core.specs.Stream.{fill_bytes};
 ghost use Rattle.hpke.specs.Answers.{Answers, both};
@@ -29,6 +29,9 @@ pub trait Kem: SecretSize + Sized {
 
     ghost KEM_ID: { ℕ };
 
+    /// Whether `sk_to_pk`, `derive_keypair`, `decap` and `encap` take memory.
+    ghost takes_memory: { Type 0 };
+
     /// The public key of a private key.
     ghost pk_of: { List ℕ → List ℕ };
 
@@ -43,14 +46,16 @@ pub trait Kem: SecretSize + Sized {
     /// The pair of private and public key that input keying material gives, or none.
     ghost derive_of: { List ℕ → Option (List ℕ × List ℕ) };
 
-    /// The public key of a private key. The only error is want of memory.
+    /// The public key of a private key. The only error is want of memory, where the KEM takes memory.
     fn sk_to_pk(alloc: Global, sk: &Self::PrivateKey) -> Result<Self::PublicKey, AllocError>
         ensures value { IfOk result (λ pk. Self.PublicKey.bytes pk ≡ pk_of (Self.PrivateKey.bytes sk.now)) }
-        ensures valid { IfOk result (λ pk. Self.PublicKey.has_value (Self.PublicKey.bytes pk)) };
+        ensures valid { IfOk result (λ pk. Self.PublicKey.has_value (Self.PublicKey.bytes pk)) }
+        ensures memory { IsErr result → takes_memory };
 
     /// The pair of keys that input keying material gives (RFC 9180, section 4).
     ///
-    /// `ValidationError` comes exactly where `derive_of` is none.
+    /// `ValidationError` comes exactly where `derive_of` is none, or `NoMemory` in its place or in a
+    /// pair's, where the KEM takes memory.
     fn derive_keypair(
         alloc: Global,
         ikm: &[u8],
@@ -58,12 +63,14 @@ pub trait Kem: SecretSize + Sized {
         ensures value { Answers (λ pair. (Self.PrivateKey.bytes pair.0, Self.PublicKey.bytes pair.1)) ValidationError result
             (derive_of ikm.now) }
         ensures valid { IfOk result (λ pair. Self.PrivateKey.has_value (Self.PrivateKey.bytes pair.0)
-            × Self.PublicKey.has_value (Self.PublicKey.bytes pair.1)) };
+            × Self.PublicKey.has_value (Self.PublicKey.bytes pair.1)) }
+        ensures memory { result ≡ Err NoMemory → takes_memory };
 
     /// A pair of keys by input keying material that is drawn, of as many bytes as a private key has,
     /// by one call of `fill_bytes`. Where memory runs out before, nothing is drawn.
     ///
-    /// `ValidationError` comes exactly where `derive_of` of the bytes drawn is none.
+    /// `ValidationError` comes exactly where `derive_of` of the bytes drawn is none; `NoMemory` is free,
+    /// since the keying material takes memory.
     fn gen_keypair<R: Rng>(
         alloc: Global,
         csprng: &mut R,
@@ -82,7 +89,8 @@ pub trait Kem: SecretSize + Sized {
 
     /// The secret in an encapsulated key, with or without a sender's identity.
     ///
-    /// `DecapError` comes exactly where `decap_of` is none, so never without a sender's identity.
+    /// `DecapError` comes exactly where `decap_of` is none, so never without a sender's identity, or
+    /// `NoMemory` in its place or in a secret's, where the KEM takes memory.
     fn decap(
         alloc: Global,
         sk_recip: &Self::PrivateKey,
@@ -91,13 +99,15 @@ pub trait Kem: SecretSize + Sized {
     ) -> Result<SharedSecret<Self>, HpkeError>
         ensures value { Answers (λ secret. secret) DecapError result (decap_of (Self.PrivateKey.bytes sk_recip.now)
             (option_map (λ pk. Self.PublicKey.bytes pk.now) pk_sender_id.entry) (Self.EncappedKey.bytes encapped_key.now)) }
-        ensures without_sender { IsSome (decap_of (Self.PrivateKey.bytes sk_recip.now) None (Self.EncappedKey.bytes encapped_key.now)) };
+        ensures without_sender { IsSome (decap_of (Self.PrivateKey.bytes sk_recip.now) None (Self.EncappedKey.bytes encapped_key.now)) }
+        ensures memory { result ≡ Err NoMemory → takes_memory };
 
     /// A secret and the encapsulated key that brings it to the holder of a private key, with or
     /// without a sender's identity.
     ///
     /// It draws 32 bytes by one call of `fill_bytes`, also before a refusal, and nothing else.
-    /// `EncapError` comes exactly where `encap_of` of these bytes is none.
+    /// `EncapError` comes exactly where `encap_of` of these bytes is none, or `NoMemory` in its place or
+    /// in a secret's, where the KEM takes memory.
     fn encap<R: Rng>(
         alloc: Global,
         pk_recip: &Self::PublicKey,
@@ -112,7 +122,8 @@ pub trait Kem: SecretSize + Sized {
             (both (option_map (λ sk. Self.PrivateKey.bytes sk.now) sk_sender_id.entry)
             (option_map (λ pk. Self.PublicKey.bytes pk.now) pk_sender_id.entry))
             (fill_bytes 32 (R.stream csprng.old)).0) }
-        ensures valid { IfOk result (λ made. Self.EncappedKey.has_value (Self.EncappedKey.bytes made.1)) };
+        ensures valid { IfOk result (λ made. Self.EncappedKey.has_value (Self.EncappedKey.bytes made.1)) }
+        ensures memory { result ≡ Err NoMemory → takes_memory };
 
     // A derived public key is that of the derived private key.
     ghost derive_pair: { (ikm sk pk : List ℕ) → derive_of ikm ≡ Some (sk, pk) → pk ≡ pk_of sk };

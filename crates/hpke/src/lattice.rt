@@ -231,7 +231,11 @@ impl<P: ParameterSet, H: KemHash> Kem for LatticeKem<P, H> {
 
     const KEM_ID: u16 = FIRST_KEM_ID + (P::K - FIRST_K) as u16;
 
+    ghost use Rattle.std.specs.Prelude.{⊤};
+
     ghost KEM_ID = { lattice_kem_id P.set };
+
+    ghost takes_memory = { ⊤ };
 
     ghost pk_of = { lattice_public P.set H.family };
 
@@ -296,7 +300,7 @@ impl<P: ParameterSet, H: KemHash> Kem for LatticeKem<P, H> {
         }
     }
 
-    ghost use Rattle.hpke.specs.LatticeLaws.{lattice_decap-size, lattice_decap-there, lattice_derive-pair, lattice_encap-size};
+    ghost use Rattle.hpke.specs.private.LatticeLaws.{lattice_decap-size, lattice_decap-there, lattice_derive-pair, lattice_encap-size};
 
     ghost derive_pair = { lattice_derive-pair P.set H.family };
 

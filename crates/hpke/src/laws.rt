@@ -17,7 +17,7 @@ ghost use Rattle.hpke.specs.Nonce.{nonce_of};
 ghost use Rattle.hpke.specs.RecipientMode.{recipient_mode, recipient_sender};
 ghost use Rattle.hpke.specs.SenderMode.{sender_mode, sender_identity};
 ghost use Rattle.hpke.specs.Schedule.{Context, Mode, Suite, suite_of, sender_setup, receiver_setup};
-ghost use Rattle.hpke.specs.declared.error.HpkeError.TheVariants.{EncapError, OpenError, SealError};
+ghost use Rattle.hpke.specs.declared.error.HpkeError.TheVariants.{EncapError, NoMemory, OpenError, SealError};
 
 use crate::aead::{Aead, BaseAead};
 use crate::aes_gcm::{AesGcm128, AesGcm256};
@@ -138,8 +138,8 @@ pub fn opens_what_was_sealed<A: Aead>()
 /// Seals a text in a sender's context and opens it in a recipient's, where both are one context: the
 /// text comes back, and both are one context afterwards, with the next number, so that `number` answers
 /// the same. What was sealed is never refused by `OpenError`: `MessageLimitReached` and `SealError` come
-/// as `seal` gives them. A refused call leaves the recipient's context as it was, and the sender's too,
-/// or with its number used.
+/// as `seal` gives them, and leave both contexts as they were. At want of memory the recipient's is as it
+/// was, and the sender's too, or with its number used.
 pub fn seal_then_open<A: Aead, D: Kdf, K>(
     alloc: Global,
     sender: &mut AeadCtxS<A, D, K>,
@@ -154,7 +154,8 @@ pub fn seal_then_open<A: Aead, D: Kdf, K>(
     ensures used { OnOk result (sender.new ≡ used sender.old) }
     ensures same { OnOk result (sender.new ≡ recipient.new) }
     ensures opens { result ≢ Err OpenError }
-    ensures refused { OnErr result ((recipient.new ≡ recipient.old) × ((sender.new ≡ sender.old) ⊎ (sender.new ≡ used sender.old))) }
+    ensures refused { result ≢ Err NoMemory → OnErr result ((sender.new ≡ sender.old) × (recipient.new ≡ recipient.old)) }
+    ensures memory { OnErr result ((recipient.new ≡ recipient.old) × ((sender.new ≡ sender.old) ⊎ (sender.new ≡ used sender.old))) }
 {
     let sealed = sender.seal(alloc, plaintext, aad)?;
     recipient.open(alloc, sealed.as_slice(), aad)

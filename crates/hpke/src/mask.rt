@@ -78,7 +78,8 @@ impl Deserializable for MaskKey {
 /// A KEM for tests: the public key is the private key, what is drawn is the encapsulated key, and
 /// the secret is the key XOR the encapsulated key. It has no secrecy.
 ///
-/// A sender's identity is refused: by `DecapError` and by `EncapError`.
+/// A sender's identity is refused: by `DecapError` and by `EncapError`. Of the calls only
+/// `gen_keypair` takes memory.
 pub struct MaskKem;
 
 impl SecretSize for MaskKem {
@@ -101,6 +102,8 @@ impl Kem for MaskKem {
     const KEM_ID: u16 = MASK_KEM_ID;
 
     ghost KEM_ID = { 0xFF00 };
+
+    ghost takes_memory = { ⊥ };
 
     ghost pk_of = { mask_public };
 
@@ -148,7 +151,7 @@ impl Kem for MaskKem {
     }
 
     ghost use Rattle.std.proofs.Common.{refl};
-    ghost use Rattle.hpke.specs.MaskLaws.{mask_decap-size, mask_derive-pair, mask_encap-size};
+    ghost use Rattle.hpke.specs.private.MaskLaws.{mask_decap-size, mask_derive-pair, mask_encap-size};
 
     ghost derive_pair = { mask_derive-pair };
 
@@ -161,7 +164,7 @@ impl Kem for MaskKem {
     ghost encapped_key_any = { λ _ bytes size. (size, bytes) };
 }
 
-/// The key of input keying material.
+// The key of input keying material.
 fn derive_key(ikm: &[u8]) -> [u8; MASK_LEN]
     ensures { result ≡ mask_key ikm.now }
 {
@@ -171,7 +174,7 @@ fn derive_key(ikm: &[u8]) -> [u8; MASK_LEN]
     bytes
 }
 
-/// Two keys, XORed place by place.
+// Two keys, XORed place by place.
 fn mask(a: &[u8; MASK_LEN], b: &[u8; MASK_LEN]) -> [u8; MASK_LEN]
     ensures { result ≡ xor_bytes a.now b.now }
 {

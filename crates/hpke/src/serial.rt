@@ -44,14 +44,14 @@ pub trait Serializable {
 
 /// A type whose values are read from their bytes.
 pub trait Deserializable: Serializable + Sized {
-    /// Whether reading takes memory.
+    /// Whether reading bytes of the right length takes memory.
     ghost takes_memory: { Type 0 };
 
     /// The value that has these bytes.
     ///
     /// `IncorrectInputLength` comes exactly for another length than `size`, with both lengths;
-    /// then `ValidationError` exactly where no value has these bytes. Want of memory may come
-    /// in the place of either, where reading takes memory.
+    /// then `ValidationError` exactly where no value has these bytes, or `NoMemory` in its place or
+    /// in a value's, where reading takes memory.
     fn from_bytes(alloc: Global, encoded: &[u8]) -> Result<Self, HpkeError>
         ensures value { IfOk result (λ value. Self.bytes value ≡ encoded.now) }
         ensures size { OnOk result (length encoded.now ≡ Self.wire_size) }

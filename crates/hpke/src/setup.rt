@@ -1,12 +1,12 @@
 //! How both sides get their contexts (RFC 9180, section 5.1).
 
-ghost use Rattle.std.specs.Prelude.{◌≡◌, None, Some, IsSome, IfOk};
+ghost use Rattle.std.specs.Prelude.{◌≡◌, None, Some, Err, IsSome, IfOk};
 ghost use Rattle.rand_core.specs.Stream.{fill_bytes};
 ghost use Rattle.hpke.specs.Answers.{Answers};
 ghost use Rattle.hpke.specs.RecipientMode.{recipient_mode, recipient_sender};
 ghost use Rattle.hpke.specs.SenderMode.{sender_mode, sender_identity};
 ghost use Rattle.hpke.specs.Schedule.{suite_of, sender_setup, receiver_setup};
-ghost use Rattle.hpke.specs.declared.error.HpkeError.TheVariants.{DecapError, EncapError};
+ghost use Rattle.hpke.specs.declared.error.HpkeError.TheVariants.{DecapError, EncapError, NoMemory};
 
 use crate::aead::Aead;
 use crate::context::{AeadCtxR, AeadCtxS, derive_enc_ctx};
@@ -21,7 +21,8 @@ use std::alloc::Global;
 /// 9180, sections 5.1.1 to 5.1.4).
 ///
 /// It draws what `Kem::encap` draws, 32 bytes, also before a refusal. `EncapError` comes exactly
-/// where `encap_of` of these bytes, with the sender's pair of keys that the mode brings, is none.
+/// where `encap_of` of these bytes, with the sender's pair of keys that the mode brings, is none, or
+/// `NoMemory` in its place or in a context's, where the KEM takes memory.
 pub fn setup_sender<A: Aead, D: Kdf, K: Kem, R: Rng>(
     alloc: Global,
     mode: &OpModeS<'_, K>,
@@ -36,6 +37,7 @@ pub fn setup_sender<A: Aead, D: Kdf, K: Kem, R: Rng>(
         (fill_bytes 32 (R.stream csprng.old)).0)) }
     ensures valid { IfOk result (λ made. K.EncappedKey.has_value (K.EncappedKey.bytes made.0)) }
     ensures number { IfOk result (λ made. made.1.next ≡ Some 0) }
+    ensures memory { result ≡ Err NoMemory → K.takes_memory }
 {
     let (sk_sender_id, pk_sender_id) = mode.sender_id_keypair();
     let (shared_secret, encapped_key) = K::encap(
@@ -60,7 +62,8 @@ pub fn setup_sender<A: Aead, D: Kdf, K: Kem, R: Rng>(
 /// 5.1.4).
 ///
 /// `DecapError` comes exactly where `decap_of`, with the sender's public key that the mode brings, is
-/// none, so never in modes Base and PSK.
+/// none, so never in modes Base and PSK, or `NoMemory` in its place or in a context's, where the KEM
+/// takes memory.
 pub fn setup_receiver<A: Aead, D: Kdf, K: Kem>(
     alloc: Global,
     mode: &OpModeR<'_, K>,
@@ -74,6 +77,7 @@ pub fn setup_receiver<A: Aead, D: Kdf, K: Kem>(
         (K.EncappedKey.bytes encapped_key.now))) }
     ensures without_sender { IsSome (K.decap_of (K.PrivateKey.bytes sk_recip.now) None (K.EncappedKey.bytes encapped_key.now)) }
     ensures number { IfOk result (λ context. context.next ≡ Some 0) }
+    ensures memory { result ≡ Err NoMemory → K.takes_memory }
 {
     let shared_secret = K::decap(alloc, sk_recip, mode.pk_sender_id(), encapped_key)?;
     let bundle = mode.psk_bundle();

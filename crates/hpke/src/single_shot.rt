@@ -1,12 +1,12 @@
 //! Single shots: a setup, and one message or its opening (RFC 9180, section 6.1).
 
-ghost use Rattle.std.specs.Prelude.{◌≡◌, ◌++◌, IfOk, OnErr};
+ghost use Rattle.std.specs.Prelude.{◌≡◌, ◌++◌, Err, IfOk, OnErr};
 ghost use Rattle.rand_core.specs.Stream.{fill_bytes};
 ghost use Rattle.hpke.specs.RecipientMode.{recipient_mode, recipient_sender};
 ghost use Rattle.hpke.specs.SenderMode.{sender_mode, sender_identity};
 ghost use Rattle.hpke.specs.Schedule.{suite_of, sender_setup, receiver_setup};
 ghost use Rattle.hpke.specs.SingleShot.{SingleShotAnswers, opened_once, sealed_once};
-ghost use Rattle.hpke.specs.declared.error.HpkeError.TheVariants.{DecapError, EncapError, OpenError, SealError};
+ghost use Rattle.hpke.specs.declared.error.HpkeError.TheVariants.{DecapError, EncapError, NoMemory, OpenError, SealError};
 
 use crate::aead::Aead;
 use crate::error::HpkeError;
@@ -22,7 +22,7 @@ use std::alloc::Global;
 /// then the tag.
 ///
 /// It draws what [`setup_sender`] draws. `EncapError` comes exactly where `encap_of` is none, then
-/// `SealError` exactly where `seal_of` is none.
+/// `SealError` exactly where `seal_of` is none; `NoMemory` is free.
 pub fn single_shot_seal<A: Aead, D: Kdf, K: Kem, R: Rng>(
     alloc: Global,
     mode: &OpModeS<'_, K>,
@@ -48,7 +48,8 @@ pub fn single_shot_seal<A: Aead, D: Kdf, K: Kem, R: Rng>(
 /// Sets up a sender's context and seals one text in place: the encapsulated key and the tag.
 ///
 /// It draws what [`setup_sender`] draws. `EncapError` comes exactly where `encap_of` is none, then
-/// `SealError` exactly where `seal_of` is none. A refused call leaves the text as it was.
+/// `SealError` exactly where `seal_of` is none. `NoMemory` is free where the KEM takes memory. A
+/// refused call leaves the text as it was.
 pub fn single_shot_seal_in_place_detached<A: Aead, D: Kdf, K: Kem, R: Rng>(
     alloc: Global,
     mode: &OpModeS<'_, K>,
@@ -66,6 +67,7 @@ pub fn single_shot_seal_in_place_detached<A: Aead, D: Kdf, K: Kem, R: Rng>(
         (sealed_once A.AeadImpl.seal_of aad.now plaintext.old) }
     ensures valid { IfOk result (λ made. K.EncappedKey.has_value (K.EncappedKey.bytes made.0)) }
     ensures refused { OnErr result (plaintext.new ≡ plaintext.old) }
+    ensures memory { result ≡ Err NoMemory → K.takes_memory }
 {
     let (encapped_key, mut ctx) = setup_sender::<A, D, K, R>(alloc, mode, pk_recip, info, csprng)?;
     let tag = ctx.seal_in_place_detached(plaintext, aad)?;
@@ -75,7 +77,7 @@ pub fn single_shot_seal_in_place_detached<A: Aead, D: Kdf, K: Kem, R: Rng>(
 /// Sets up a recipient's context and opens one ciphertext, which its tag follows.
 ///
 /// `DecapError` comes exactly where `decap_of` is none, then `OpenError` exactly where `open_of` is
-/// none, as it is for a text shorter than a tag.
+/// none, as it is for a text shorter than a tag; `NoMemory` is free.
 pub fn single_shot_open<A: Aead, D: Kdf, K: Kem>(
     alloc: Global,
     mode: &OpModeR<'_, K>,
@@ -98,7 +100,7 @@ pub fn single_shot_open<A: Aead, D: Kdf, K: Kem>(
 /// Sets up a recipient's context and opens one ciphertext in place, by its tag.
 ///
 /// `DecapError` comes exactly where `decap_of` is none, then `OpenError` exactly where `open_of` is
-/// none. A refused call leaves the ciphertext as it was.
+/// none. `NoMemory` is free where the KEM takes memory. A refused call leaves the ciphertext as it was.
 pub fn single_shot_open_in_place_detached<A: Aead, D: Kdf, K: Kem>(
     alloc: Global,
     mode: &OpModeR<'_, K>,
@@ -115,6 +117,7 @@ pub fn single_shot_open_in_place_detached<A: Aead, D: Kdf, K: Kem>(
         (K.EncappedKey.bytes encapped_key.now)))
         (opened_once A.AeadImpl.open_of aad.now (ciphertext.old ++ tag.now)) }
     ensures refused { OnErr result (ciphertext.new ≡ ciphertext.old) }
+    ensures memory { result ≡ Err NoMemory → K.takes_memory }
 {
     let mut ctx = setup_receiver::<A, D, K>(alloc, mode, sk_recip, encapped_key, info)?;
     ctx.open_in_place_detached(ciphertext, aad, tag)

@@ -1,4 +1,4 @@
 -- the KEM whose secret is a key
 pub mod KeyKem
--- its laws: proofs, and no definitions
-pub mod KeyKemLaws
+-- proofs that an `impl` cites: no definitions, and nothing in it has to be believed
+pub mod private

@@ -46,6 +46,8 @@ impl<const ID: u16> Kem for KeyKem<ID> {
 
     ghost KEM_ID = { ID };
 
+    ghost takes_memory = { ⊥ };
+
     ghost pk_of = { mask_public };
 
     ghost decap_of = { key_decap };
@@ -89,8 +91,8 @@ impl<const ID: u16> Kem for KeyKem<ID> {
     }
 
     ghost use Rattle.std.proofs.Common.{refl};
-    ghost use Rattle.hpke.specs.MaskLaws.{mask_derive-pair};
-    ghost use Rattle.hpke_acceptance.specs.KeyKemLaws.{key_decap-size, key_encap-size};
+    ghost use Rattle.hpke.specs.private.MaskLaws.{mask_derive-pair};
+    ghost use Rattle.hpke_acceptance.specs.private.KeyKemLaws.{key_decap-size, key_encap-size};
 
     ghost derive_pair = { mask_derive-pair };
 

@@ -43,6 +43,8 @@ impl Kem for RefusingKem {
 
     ghost KEM_ID = { 0xFF01 };
 
+    ghost takes_memory = { ⊥ };
+
     ghost pk_of = { mask_public };
 
     ghost decap_of = { mask_decap };
@@ -88,7 +90,7 @@ impl Kem for RefusingKem {
 
     ghost use Rattle.std.proofs.Common.{refl};
     ghost use Rattle.std.proofs.lemmas.Option.{none-some};
-    ghost use Rattle.hpke.specs.MaskLaws.{mask_decap-size, mask_encap-size};
+    ghost use Rattle.hpke.specs.private.MaskLaws.{mask_decap-size, mask_encap-size};
 
     ghost derive_pair = { λ _ _ _ is. absurd (none-some _ is) };
 

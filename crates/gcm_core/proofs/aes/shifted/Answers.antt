@@ -1,7 +1,7 @@
 use Rattle.std.proofs.Common.{◌≡◌, ℕ, List, length, map, ap, ◌∙◌}
 use Rattle.std.proofs.lemmas.List.{length-map}
 use Rattle.gcm_core.specs.Aes.{shift_rows}
-use Rattle.gcm_core.specs.Nibbles.{once}
+use Rattle.gcm_core.specs.private.Nibbles.{once}
 use Rattle.gcm_core.proofs.Rounds.{shifted-lanes, sub_bytes-lanes}
 use Rattle.gcm_core.proofs.aes.shifted.Goals as goal
 

@@ -1,6 +1,6 @@
 use Rattle.std.proofs.Common.{◌≡◌, ◌+◌, ◌-◌, ◌*◌, [], refl, sym, arith}
 use Rattle.gcm_core.specs.Aes.{cipher}
-use Rattle.gcm_core.specs.Counters.{counter_after}
+use Rattle.gcm_core.specs.private.Counters.{counter_after}
 use Rattle.gcm_core.proofs.Stream.{gctr_blocks-none, gctr_fours-step}
 use Rattle.gcm_core.proofs.gcm.gctr_fours.Goals as goal
 

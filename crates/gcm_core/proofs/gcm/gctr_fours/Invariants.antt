@@ -1,6 +1,6 @@
 use Rattle.std.proofs.Common.{◌≡◌, ◌*◌, drop, take}
 use Rattle.gcm_core.specs.Aes.{cipher}
-use Rattle.gcm_core.specs.Counters.{counter_after}
+use Rattle.gcm_core.specs.private.Counters.{counter_after}
 use Rattle.gcm_core.specs.Gcm.{gctr_blocks}
 use Rattle.gcm_core.proofs.gcm.gctr_fours.Given as goal
 

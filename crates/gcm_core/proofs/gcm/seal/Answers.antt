@@ -2,7 +2,8 @@ use Rattle.std.proofs.Common.{ℕ, List, length, true, false, refl, ap, ◌∙�
 use Rattle.std.specs.Int.{div_ceil}
 use Rattle.gcm_core.specs.Aes.{cipher}
 use Rattle.gcm_core.specs.Gcm.{padded}
-use Rattle.gcm_core.specs.Ghash.{continued, polynomials}
+use Rattle.gcm_core.specs.Ghash.{polynomials}
+use Rattle.gcm_core.specs.private.Continued.{continued}
 use Rattle.gcm_core.proofs.Reversal.{polynomial_of-lt}
 use Rattle.gcm_core.proofs.Sealing.{fits_limits-tested, gcm_ae-made, gcm_ae-past, none_and_none, some_or_none, tag_of-made}
 use Rattle.gcm_core.proofs.gcm.seal.Goals as goal

@@ -1,5 +1,6 @@
 use Rattle.std.proofs.Common.{◌≡◌, ◌%◌, ◌/◌, ◌∙◌, length, arith, ap}
-use Rattle.gcm_core.specs.Ghash.{continued, polynomials}
+use Rattle.gcm_core.specs.Ghash.{polynomials}
+use Rattle.gcm_core.specs.private.Continued.{continued}
 use Rattle.gcm_core.proofs.Hash.{continued-blocks}
 use Rattle.gcm_core.proofs.gcm.seal_chunk.Goals as goal
 

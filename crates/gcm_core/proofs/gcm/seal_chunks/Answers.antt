@@ -1,9 +1,10 @@
 use Rattle.std.proofs.Common.{◌≡◌, ℕ, ◌+◌, ◌-◌, ◌*◌, ◌/◌, [], length, refl, sym, ap, ◌∙◌, arith, drop, take, List, length-drop}
 use Rattle.std.proofs.lemmas.List.{length-take}
 use Rattle.gcm_core.specs.Aes.{cipher}
-use Rattle.gcm_core.specs.Counters.{counter_after}
+use Rattle.gcm_core.specs.private.Counters.{counter_after}
 use Rattle.gcm_core.specs.Gcm.{gctr_blocks}
-use Rattle.gcm_core.specs.Ghash.{continued, polynomials}
+use Rattle.gcm_core.specs.Ghash.{polynomials}
+use Rattle.gcm_core.specs.private.Continued.{continued}
 use Rattle.gcm_core.proofs.Hash.{continued-empty}
 use Rattle.gcm_core.proofs.Chunks.{chunks-step}
 use Rattle.gcm_core.proofs.Stream.{gctr_blocks-none}

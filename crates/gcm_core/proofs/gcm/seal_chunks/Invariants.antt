@@ -1,8 +1,9 @@
 use Rattle.std.proofs.Common.{◌≡◌, ◌*◌, ◌^◌, ◌<◌, drop, take}
 use Rattle.gcm_core.specs.Aes.{cipher}
-use Rattle.gcm_core.specs.Counters.{counter_after}
+use Rattle.gcm_core.specs.private.Counters.{counter_after}
 use Rattle.gcm_core.specs.Gcm.{gctr_blocks}
-use Rattle.gcm_core.specs.Ghash.{continued, polynomials}
+use Rattle.gcm_core.specs.Ghash.{polynomials}
+use Rattle.gcm_core.specs.private.Continued.{continued}
 use Rattle.gcm_core.proofs.gcm.seal_chunks.Given as goal
 
 abbrev pub invariant-loop-i : goal.invariant-loop-i

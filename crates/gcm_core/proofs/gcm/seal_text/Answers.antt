@@ -2,7 +2,8 @@ use Rattle.std.proofs.Common.{◌≡◌, ℕ, ◌*◌, ◌/◌, ◌%◌, List, l
 use Rattle.std.specs.Int.{div_ceil}
 use Rattle.gcm_core.specs.Aes.{cipher}
 use Rattle.gcm_core.specs.Gcm.{gctr, padded}
-use Rattle.gcm_core.specs.Ghash.{continued, polynomials}
+use Rattle.gcm_core.specs.Ghash.{polynomials}
+use Rattle.gcm_core.specs.private.Continued.{continued}
 use Rattle.gcm_core.proofs.Hash.{continued-rest}
 use Rattle.gcm_core.proofs.Stream.{gctr_blocks-whole}
 use Rattle.gcm_core.proofs.gcm.seal_text.Goals as goal

@@ -1,7 +1,8 @@
 use Rattle.std.proofs.Common.{◌≡◌, ◌-◌, ◌*◌, ◌^◌, ◌<◌, drop, length}
 use Rattle.std.specs.Int.{div_ceil}
 use Rattle.gcm_core.specs.Gcm.{padded}
-use Rattle.gcm_core.specs.Ghash.{continued, polynomials}
+use Rattle.gcm_core.specs.Ghash.{polynomials}
+use Rattle.gcm_core.specs.private.Continued.{continued}
 use Rattle.gcm_core.proofs.ghash.absorb.Given as goal
 
 abbrev pub invariant-loop-i : goal.invariant-loop-i

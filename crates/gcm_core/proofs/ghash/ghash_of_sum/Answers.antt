@@ -1,7 +1,8 @@
 use Rattle.std.proofs.Common.{◌≡◌, ◌*◌, ◌++◌, length, refl, ap, ◌∙◌}
 use Rattle.std.specs.Int.{div_ceil, to_be_bytes, w64}
 use Rattle.gcm_core.specs.Gcm.{padded}
-use Rattle.gcm_core.specs.Ghash.{block_of, continued, polynomials}
+use Rattle.gcm_core.specs.Ghash.{block_of, polynomials}
+use Rattle.gcm_core.specs.private.Continued.{continued}
 use Rattle.gcm_core.proofs.Hash.{continued-authenticated}
 use Rattle.gcm_core.proofs.ghash.ghash_of_sum.Goals as goal
 

@@ -3,7 +3,7 @@ use Rattle.std.specs.Prelude.{bit_and, bit_xor}
 use Rattle.std.specs.Int.{reverse_bits}
 use Rattle.std.proofs.lemmas.Simd.{below_from_Fits, zip2_of_maps}
 use Rattle.gcm_core.specs.declared.ghash.TheConstants.{REVERSED_HIGH, REVERSED_LOW}
-use Rattle.gcm_core.specs.Nibbles.{entry_of}
+use Rattle.gcm_core.specs.private.Nibbles.{entry_of}
 use Rattle.gcm_core.proofs.HalfBytes.{high_of_block, low_of_block}
 use Rattle.gcm_core.proofs.Lanes.{looked, map-bytes, places}
 use Rattle.gcm_core.proofs.Reversal.{halves_reversed}

@@ -3,7 +3,7 @@ use Rattle.std.specs.Prelude.{bit_and, bit_xor}
 use Rattle.std.proofs.lemmas.List.{take-take}
 use Rattle.std.proofs.lemmas.Simd.{zip2_of_maps}
 use lib.Lanes.{number_l, zip2}
-use Rattle.gcm_core.specs.Nibbles.{entry_of}
+use Rattle.gcm_core.specs.private.Nibbles.{entry_of}
 use Rattle.gcm_core.proofs.HalfBytes.{down, high_of_block, low_of_block}
 use Rattle.gcm_core.proofs.Lanes.{looked, places}
 use Rattle.gcm_core.proofs.Moved.{number-xor-lt}

@@ -1,5 +1,5 @@
 use Rattle.std.proofs.Common.{◌≡◌, ℕ, ◌+◌, ◌*◌, ◌<◌, length, slice_index}
-use Rattle.gcm_core.specs.Rows.{byte_of}
+use Rattle.gcm_core.specs.private.Rows.{byte_of}
 use Rattle.gcm_core.proofs.hash_key.write_column.Given as goal
 
 abbrev pub invariant-loop-b : goal.invariant-loop-b

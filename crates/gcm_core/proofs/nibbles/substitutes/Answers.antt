@@ -2,7 +2,7 @@ use Rattle.std.proofs.Common.{ℕ, ◌/◌, ◌^◌, refl}
 use Rattle.std.specs.Prelude.{bit_and, bit_xor}
 use Rattle.std.proofs.lemmas.Simd.{zip2_of_maps}
 use Rattle.gcm_core.specs.declared.nibbles.TheConstants.{AFFINE, AFFINE_TWICE, FIRST, FIRST_TWICE, SCALED, SECOND, SECOND_TWICE}
-use Rattle.gcm_core.specs.Nibbles.{changed, entry_of, first_half, second_half}
+use Rattle.gcm_core.specs.private.Nibbles.{changed, entry_of, first_half, second_half}
 use Rattle.gcm_core.proofs.Lanes.{looked, places, with_splat}
 use Rattle.gcm_core.proofs.HalfBytes.{both, both_is, changed_block, first_is, high, high_is, high_of_block, low, low_is, low_of_block, met, met_is, second_is}
 use Rattle.gcm_core.proofs.nibbles.substitutes.Goals as goal

@@ -1,4 +1,4 @@
-use Rattle.hpke.specs.LatticeLaws.{lattice_decap-sampled, lattice_derive-none, lattice_encap-none}
+use Rattle.hpke.proofs.LatticeRefusals.{lattice_decap-sampled, lattice_derive-none, lattice_encap-none}
 use Rattle.hpke.proofs.laws.lattice_refusals.Goals as goal
 
 pub returns-clause-encap : goal.returns-clause-encap

@@ -1,7 +1,7 @@
 use Rattle.std.proofs.Common.{◌≡◌, ap, ◌∙◌, arith, inl, inr}
 use Rattle.std.proofs.lemmas.Bool.{cases_lt}
 use Rattle.gcm_core.specs.Ghash.{block_product}
-use Rattle.gcm_core.specs.Rows.{byte_of}
+use Rattle.gcm_core.specs.private.Rows.{byte_of}
 use Rattle.gcm_core.proofs.hash_key.HashKey.new.Goals as goal
 
 pub loop-place-init : goal.loop-place-init

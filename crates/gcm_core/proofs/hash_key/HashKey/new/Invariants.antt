@@ -1,6 +1,6 @@
 use Rattle.std.proofs.Common.{◌≡◌, ℕ, ◌+◌, ◌*◌, ◌<◌, slice_index}
 use Rattle.gcm_core.specs.Ghash.{block_product}
-use Rattle.gcm_core.specs.Rows.{byte_of, factor_of}
+use Rattle.gcm_core.specs.private.Rows.{byte_of, factor_of}
 use Rattle.gcm_core.proofs.hash_key.HashKey.new.Given as goal
 
 abbrev pub invariant-loop-place : goal.invariant-loop-place

@@ -4,7 +4,7 @@ use Rattle.std.proofs.lemmas.Nat.{xor_lt}
 use lib.Bits.{xor_zero_r}
 use lib.Lanes.{number_l}
 use Rattle.gcm_core.specs.Ghash.{block_product}
-use Rattle.gcm_core.specs.Rows.{byte_of, row_at}
+use Rattle.gcm_core.specs.private.Rows.{byte_of, row_at}
 use Rattle.gcm_core.proofs.Shifts.{folded, raised-128}
 use Rattle.gcm_core.proofs.Sums.{row_at-is, rows-first, rows-high, rows-step, summed_rows, summed_rows-is}
 use Rattle.gcm_core.proofs.hash_key.HashKey.times.Goals as goal

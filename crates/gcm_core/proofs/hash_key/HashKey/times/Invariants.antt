@@ -1,6 +1,6 @@
 use Rattle.std.proofs.Common.{◌≡◌, ◌+◌, ◌-◌, ◌*◌, ◌^◌, ◌<◌}
 use lib.Lanes.{number_l}
-use Rattle.gcm_core.specs.Rows.{row_at}
+use Rattle.gcm_core.specs.private.Rows.{row_at}
 use Rattle.gcm_core.proofs.Shifts.{folded}
 use Rattle.gcm_core.proofs.Sums.{summed_rows}
 use Rattle.gcm_core.proofs.hash_key.HashKey.times.Given as goal

@@ -1,4 +1,4 @@
-use Rattle.hpke.specs.LatticeLaws.{lattice_decap-seeded}
+use Rattle.hpke.proofs.LatticeRefusals.{lattice_decap-seeded}
 use Rattle.hpke.proofs.lattice.LatticeKemKem.decap.Goals as goal
 
 pub returns-then-is_some-clause-without_sender : goal.returns-then-is_some-clause-without_sender

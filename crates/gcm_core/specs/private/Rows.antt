@@ -2,7 +2,7 @@
 -- public clause cites it, and nothing in it has to be believed.
 use Rattle.std.specs.Prelude.{◌≡◌, ℕ, ◌+◌, ◌-◌, ◌*◌, ◌/◌, ◌%◌, ◌^◌, ◌<◌, List, drop, take, slice_index, bit_and, bit_xor, nat_lt, if◌then◌else◌}
 use Rattle.gcm_core.specs.Ghash.{block_product}
-use Rattle.gcm_core.specs.Nibbles.{entry_of}
+use Rattle.gcm_core.specs.private.Nibbles.{entry_of}
 
 -- byte b of an element, whose lowest coefficients are byte 0
 abbrev pub byte_of : ℕ → ℕ → ℕ

@@ -1,0 +1,2 @@
+-- the laws of the KEM whose secret is a key
+pub mod KeyKemLaws
