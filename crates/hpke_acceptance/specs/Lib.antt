@@ -1,4 +1,2 @@
--- the KEM whose secret is a key
-pub mod KeyKem
--- proofs that an `impl` cites: no definitions, and nothing in it has to be believed
+-- what the tests alone cite
 pub mod private

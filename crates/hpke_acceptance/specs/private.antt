@@ -1,2 +1,4 @@
--- the laws of the KEM whose secret is a key
+-- the KEM whose secret is a key
+pub mod KeyKem
+-- its laws
 pub mod KeyKemLaws

@@ -33,7 +33,7 @@ fn secret<const ID: u16>(key: &MaskKey) -> SharedSecret<KeyKem<ID>>
 }
 
 impl<const ID: u16> Kem for KeyKem<ID> {
-    ghost use Rattle.hpke_acceptance.specs.KeyKem.{key_decap, key_encap};
+    ghost use Rattle.hpke_acceptance.specs.private.KeyKem.{key_decap, key_encap};
     ghost use Rattle.hpke.specs.Mask.{mask_derive, mask_public};
 
     type PublicKey = MaskKey;

@@ -5,7 +5,7 @@ use Rattle.std.proofs.lemmas.Option.{none-some, same_Some}
 use Rattle.std.proofs.lemmas.Bool.{eqb-true}
 use Rattle.std.specs.Option.{option_map}
 use Rattle.hpke.specs.Mask.{IsMaskKey}
-use Rattle.hpke_acceptance.specs.KeyKem.{as_secret, key_decap, key_encap}
+use Rattle.hpke_acceptance.specs.private.KeyKem.{as_secret, key_decap, key_encap}
 
 -- what is chosen by a test of its length has that length
 chosen : (b : Bool) (key secret : List ℕ) → (b ≡ true → length key ≡ 32) → (if b then Some key else None) ≡ Some secret → length secret ≡ 32
