@@ -1,0 +1,5 @@
+//! SHA-3 (FIPS 202).
+#![tactic(auto)]
+
+mod keccak;
+pub mod laws;
