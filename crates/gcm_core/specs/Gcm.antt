@@ -47,10 +47,11 @@ gcm_ae ciph nonce aad text =
     let c = gctr ciph (inc32 (j0 nonce)) text in
     if fits_limits aad text then Some (c ++ tag_of ciph nonce aad c) else None
 
--- what stands before the tag of a sealed text, and the tag
+-- what stands before the tag of a sealed text
 abbrev pub ciphertext_of : List ℕ → List ℕ
 ciphertext_of sealed = take (length sealed - 16) sealed
 
+-- the tag of a sealed text
 abbrev pub sealed_tag : List ℕ → List ℕ
 sealed_tag sealed = drop (length sealed - 16) sealed
 

@@ -50,10 +50,11 @@ mode_base = record { number = 0x00; psk = []; psk_id = [] }
 abbrev pub suite_id : Suite → List ℕ
 suite_id s = hpke_suite s.kem_id s.kdf.kdf_id s.aead.aead_id
 
--- LabeledExtract and LabeledExpand of a context (section 4)
+-- LabeledExtract of a context (section 4)
 abbrev pub suite_extract : Suite → List ℕ → List ℕ → List ℕ → List ℕ
 suite_extract s salt label ikm = labeled_extract s.kdf.hash s.kdf.block_size salt (suite_id s) label ikm
 
+-- LabeledExpand of a context (section 4)
 abbrev pub suite_expand : Suite → List ℕ → List ℕ → List ℕ → ℕ → List ℕ
 suite_expand s prk label info len = labeled_expand s.kdf.hash s.kdf.block_size prk (suite_id s) label info len
 
