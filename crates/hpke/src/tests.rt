@@ -1,6 +1,6 @@
 //! Printed texts, and each public call once. Expected bytes are of an independent model, in hex.
 
-ghost use Rattle.std.specs.Prelude.{◌<◌, ◌^◌, replicate};
+ghost use Rattle.std.specs.Prelude.{◌<◌, ◌≤◌, ◌^◌, replicate};
 ghost use Rattle.rand_core.specs.Steps.{stream_of};
 
 mod contexts;
@@ -10,7 +10,7 @@ use crate::laws::{registered_identifiers, same_context};
 use crate::short::{ShortBytes, nonce};
 use crate::{
     AeadTag, AesGcm256, Deserializable, ExportOnlyAead, HkdfSha256, HkdfSha384, HkdfSha512,
-    HpkeError, Kdf, Kem, LabeledExpand, MaskKem, MaskKey, SecretSize, Serializable,
+    HpkeError, Kdf, Kem, LabeledExpand, MaskKem, MaskKey, SecretSize, Serializable, SharedSecret,
     extract_and_expand, labeled_extract,
 };
 use rand_core::Rng;
@@ -79,60 +79,91 @@ fn texts_of_errors(rt: HostRuntime) -> Result<(), Fail> {
     Ok(())
 }
 
+// What a key refuses this many bytes with.
+fn key_refusal(alloc: Global, len: usize) -> Option<HpkeError>
+    requires { len ≤ 33 }
+{
+    key(alloc, &[5; 33][..len]).err()
+}
+
+// The digits of a value's bytes.
+fn digits<T: Serializable>(alloc: Global, value: &T) -> Result<String, Fail> {
+    Ok(hex::encode(alloc, value.to_bytes(alloc)?.as_slice())?)
+}
+
 #[test]
 fn keys_in_bytes(rt: HostRuntime) -> Result<(), Fail> {
-    let alloc = rt.alloc();
-    let encoded = [5; 33];
-    let value = key(alloc, &encoded[..32])?;
-    assert_eq!(rt; value.to_bytes(alloc)?.as_slice(), &encoded[..32]);
+    let value = key(rt.alloc(), &[0x5A; 32])?;
+    let want = "5a5a5a5a5a5a5a5a5a5a5a5a5a5a5a5a5a5a5a5a5a5a5a5a5a5a5a5a5a5a5a5a";
+    assert_eq!(rt; digits(rt.alloc(), &value)?.as_str(), want);
     assert_eq!(rt; MaskKey::size(), 32);
     for len in [0, 31, 33] {
-        assert_eq!(rt;
-            key(alloc, &encoded[..len]).err(),
-            Some(HpkeError::IncorrectInputLength(32, len))
-        );
+        let want = Some(HpkeError::IncorrectInputLength(32, len));
+        assert_eq!(rt; key_refusal(rt.alloc(), len), want);
     }
     Ok(())
 }
 
+// A secret and the encapsulated key for a key, with or without a sender's pair, which is that key twice.
+fn encapsulated(
+    alloc: Global,
+    pk: &MaskKey,
+    with_sender: bool,
+) -> Result<(SharedSecret<MaskKem>, MaskKey), HpkeError> {
+    let sender = if with_sender { Some(pk) } else { None };
+    MaskKem::encap(alloc, pk, sender, sender, &mut ConstantDraw::new(7))
+}
+
+// The secret that a key finds in an encapsulated one, with or without that key as a sender's.
+fn decapsulated(
+    alloc: Global,
+    sk: &MaskKey,
+    encapped_key: &MaskKey,
+    with_sender: bool,
+) -> Result<SharedSecret<MaskKem>, HpkeError> {
+    let sender = if with_sender { Some(sk) } else { None };
+    MaskKem::decap(alloc, sk, sender, encapped_key)
+}
+
+// The XOR of 35 and 07 is 32.
 #[test]
 fn secrets_of_both_sides(rt: HostRuntime) -> Result<(), Fail> {
-    same_context::<MaskKem>();
     let alloc = rt.alloc();
     let sk = key(alloc, &[0x35; 32])?;
     let pk = MaskKem::sk_to_pk(alloc, &sk)?;
-    let (sent, encapped_key) = MaskKem::encap(alloc, &pk, None, None, &mut ConstantDraw::new(7))?;
-    let found = MaskKem::decap(alloc, &sk, None, &encapped_key)?;
-    assert_eq!(rt;
-        encapped_key.to_bytes(alloc)?.as_slice(),
-        [7; 32].as_slice()
-    );
+    let (sent, encapped_key) = encapsulated(alloc, &pk, false)?;
+    let found = decapsulated(alloc, &sk, &encapped_key, false)?;
     assert_eq!(rt; sent.as_slice(), [0x32; 32].as_slice());
-    assert_eq!(rt; found.as_slice(), sent.as_slice());
+    assert_eq!(rt; found.as_slice(), [0x32; 32].as_slice());
     assert_eq!(rt; MaskKem::secret_size(), 32);
-
-    let with_sender = MaskKem::decap(alloc, &sk, Some(&pk), &encapped_key);
-    assert_eq!(rt; with_sender.err(), Some(HpkeError::DecapError));
-    let identified = MaskKem::encap(alloc, &pk, Some(&sk), Some(&pk), &mut ConstantDraw::new(7));
-    assert_eq!(rt; identified.err(), Some(HpkeError::EncapError));
     Ok(())
 }
 
 #[test]
+fn senders_of_the_test_kem_are_refused(rt: HostRuntime) -> Result<(), Fail> {
+    same_context::<MaskKem>();
+    let pk = key(rt.alloc(), &[0x35; 32])?;
+    let sent = encapsulated(rt.alloc(), &pk, true).err();
+    assert_eq!(rt; sent, Some(HpkeError::EncapError));
+    let found = decapsulated(rt.alloc(), &pk, &pk, true).err();
+    assert_eq!(rt; found, Some(HpkeError::DecapError));
+    Ok(())
+}
+
+// The digits of both keys of a pair.
+fn pair_digits(alloc: Global, pair: &(MaskKey, MaskKey)) -> Result<[String; 2], Fail> {
+    let (sk, pk) = pair;
+    Ok([digits(alloc, sk)?, digits(alloc, pk)?])
+}
+
+#[test]
 fn derived_keys(rt: HostRuntime) -> Result<(), Fail> {
-    let alloc = rt.alloc();
     let want = "a7bef269e8ea778aa5192d685af069a54c92c023565526c9c96ea24410a2feac";
-    let derived = MaskKem::derive_keypair(alloc, &[7; 32])?;
-    let generated = MaskKem::gen_keypair(alloc, &mut ConstantDraw::new(7))?;
-    for (sk, pk) in [&derived, &generated] {
-        assert_eq!(rt;
-            hex::encode(alloc, sk.to_bytes(alloc)?.as_slice())?.as_str(),
-            want
-        );
-        assert_eq!(rt;
-            hex::encode(alloc, pk.to_bytes(alloc)?.as_slice())?.as_str(),
-            want
-        );
+    let derived = MaskKem::derive_keypair(rt.alloc(), &[7; 32])?;
+    let drawn = MaskKem::gen_keypair(rt.alloc(), &mut ConstantDraw::new(7))?;
+    for pair in [&derived, &drawn] {
+        let [sk, pk] = pair_digits(rt.alloc(), pair)?;
+        assert_eq!(rt; [sk.as_str(), pk.as_str()], [want, want]);
     }
     Ok(())
 }
@@ -152,10 +183,17 @@ fn extract_and_expand_of_a_kem(rt: HostRuntime) -> Result<(), Fail> {
     Ok(())
 }
 
+// The nonce of this number under a base nonce of 12 bytes, in hex.
+fn nonce_digits(alloc: Global, base_nonce: &str, number: u64) -> Result<String, Fail> {
+    let mut bytes = [0; 12];
+    hex::decode_to_slice(base_nonce, &mut bytes)?;
+    let made = nonce(&ShortBytes::from_slice(&bytes), number);
+    Ok(hex::encode(alloc, made.as_slice())?)
+}
+
 // Nonces of an independent model, each by its base nonce and number.
 #[test]
 fn nonces_of_numbers(rt: HostRuntime) -> Result<(), Fail> {
-    let alloc = rt.alloc();
     let cases = [
         ("46d41b6334664be3b4bbe4ec", 0, "46d41b6334664be3b4bbe4ec"),
         ("044d130a95e442722f944b6c", 1, "044d130a95e442722f944b6d"),
@@ -178,29 +216,32 @@ fn nonces_of_numbers(rt: HostRuntime) -> Result<(), Fail> {
         ),
     ];
     for (base_nonce, number, want) in cases {
-        let base_nonce = hex::decode(alloc, base_nonce)?;
-        let mut bytes = [0; 12];
-        if base_nonce.len() == bytes.len() {
-            bytes.copy_from_slice(base_nonce.as_slice());
-        }
-        let made = nonce(&ShortBytes::from_slice(&bytes), number);
-        assert_eq!(rt; hex::encode(alloc, made.as_slice())?.as_str(), want);
+        assert_eq!(rt;
+            nonce_digits(rt.alloc(), base_nonce, number)?.as_str(),
+            want
+        );
     }
     Ok(())
 }
 
+// What a tag refuses this many bytes with.
+fn tag_refusal(alloc: Global, len: usize) -> Option<HpkeError>
+    requires { len ≤ 17 }
+{
+    AeadTag::<AesGcm256>::from_bytes(alloc, &[9; 17][..len]).err()
+}
+
 #[test]
 fn tags_in_bytes(rt: HostRuntime) -> Result<(), Fail> {
-    let alloc = rt.alloc();
-    let encoded = [9; 17];
-    let tag = AeadTag::<AesGcm256>::from_bytes(alloc, &encoded[..16])?;
-    assert_eq!(rt; tag.clone()?.to_bytes(alloc)?.as_slice(), &encoded[..16]);
+    let tag = AeadTag::<AesGcm256>::from_bytes(rt.alloc(), &[9; 16])?.clone()?;
+    let want = "09090909090909090909090909090909";
+    assert_eq!(rt; digits(rt.alloc(), &tag)?.as_str(), want);
     for len in [0, 15, 17] {
-        let refused = AeadTag::<AesGcm256>::from_bytes(alloc, &encoded[..len]).err();
-        assert_eq!(rt; refused, Some(HpkeError::IncorrectInputLength(16, len)));
+        let want = Some(HpkeError::IncorrectInputLength(16, len));
+        assert_eq!(rt; tag_refusal(rt.alloc(), len), want);
     }
-    let zeros = AeadTag::<AesGcm256>::default();
-    assert_eq!(rt; zeros.to_bytes(alloc)?.as_slice(), [0; 16].as_slice());
+    let zeros = digits(rt.alloc(), &AeadTag::<AesGcm256>::default())?;
+    assert_eq!(rt; zeros.as_str(), "00000000000000000000000000000000");
     assert_eq!(rt; AeadTag::<ExportOnlyAead>::size(), 0);
     registered_identifiers();
     Ok(())
