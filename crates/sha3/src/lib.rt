@@ -3,3 +3,4 @@
 
 mod keccak;
 pub mod laws;
+mod sponge;

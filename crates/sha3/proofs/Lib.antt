@@ -1,0 +1,3 @@
+mod Absorbing
+mod Blocks
+mod Padding
