@@ -1,3 +1,5 @@
 mod Absorbing
 mod Blocks
+mod Fronts
 mod Padding
+mod Squeezing

@@ -28,10 +28,15 @@ Absorbs rate held message = (n : ℕ) × (length message ≡ n * rate + held.len
 -- the state after n turns of the permutation
 unfoldable pub permuted : List ℕ → ℕ → List ℕ
 permuted a zero = a
-permuted a (suc n) = permuted (keccak_f a) n
+permuted a (suc n) = keccak_f (permuted a n)
 
--- of the output that is squeezed from a state, this many bytes were given: the last of them from a block
--- of which so many are gone
-unfoldable pub Squeezes : ℕ → List ℕ → List ℕ → List ℕ → ℕ → ℕ → Type 0
-Squeezes rate from a block gone given = (n : ℕ) × (given ≡ n * rate + gone) × (gone ≤ rate)
-    × (a ≡ permuted from n) × (block ≡ take rate (state_bytes a))
+-- what is left of an output: a state, the block that it gives, and how many of its bytes are gone
+pub record Left : Type 0 where
+  pub state : List ℕ
+  pub block : List ℕ
+  pub gone : ℕ
+
+-- of the output that is squeezed from a state, which has 25 lanes, this many bytes were given
+unfoldable pub Squeezes : ℕ → List ℕ → Left → ℕ → Type 0
+Squeezes rate from left given = (n : ℕ) × (length from ≡ 25) × (given ≡ n * rate + left.gone) × (left.gone ≤ rate)
+    × (left.state ≡ permuted from n) × (left.block ≡ take rate (state_bytes left.state))

@@ -4,3 +4,4 @@
 mod keccak;
 pub mod laws;
 mod sponge;
+mod squeeze;

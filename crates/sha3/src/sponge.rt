@@ -12,7 +12,7 @@ use std::marker::Model;
 pub(crate) const MAX_RATE: usize = 168;
 
 /// How many bytes a lane has.
-const LANE_LEN: usize = 8;
+pub(crate) const LANE_LEN: usize = 8;
 
 /// The last bit of a padding, in the last byte of a block.
 const LAST_BIT: u8 = 0x80;
