@@ -31,7 +31,7 @@ take-state_bytes a k within =
     ap (λ (n : ℕ). take n (state_bytes a)) more ∙ take-add (8 * k) 8 (state_bytes a)
     ∙ ap (λ (bytes : List ℕ). take (8 * k) (state_bytes a) ++ bytes) (state_bytes-at a k within)
 
-length-keccak_f : (a : List ℕ) → length (keccak_f a) ≡ 25
+pub length-keccak_f : (a : List ℕ) → length (keccak_f a) ≡ 25
 unfolding keccak_f rounds chi
 length-keccak_f a = refl
 
@@ -57,7 +57,7 @@ squeezed-next rate a (suc n) =
 length-block : (rate : ℕ) (a : List ℕ) → rate ≤ 200 → length a ≡ 25 → length (take rate (state_bytes a)) ≡ rate
 length-block rate a most is = length-take-le rate (state_bytes a) (omega (arith, length-state_bytes a, is))
 
-length-squeezed : (rate : ℕ) (a : List ℕ) (n : ℕ) → rate ≤ 200 → length a ≡ 25 → length (squeezed rate a n) ≡ n * rate
+pub length-squeezed : (rate : ℕ) (a : List ℕ) (n : ℕ) → rate ≤ 200 → length a ≡ 25 → length (squeezed rate a n) ≡ n * rate
 unfolding squeezed
 length-squeezed rate a zero most is = omega arith
 length-squeezed rate a (suc n) most is =

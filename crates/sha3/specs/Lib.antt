@@ -6,3 +6,5 @@ pub mod Sponge
 pub mod Sha3
 -- messages and outputs piece by piece
 pub mod Pieces
+-- what was taken in and given, of the public types
+pub mod Hashers

@@ -6,6 +6,7 @@ ghost use Rattle.sha3.specs.Pieces.{Absorbs, Held, IsDomain, IsRate};
 ghost use Rattle.sha3.specs.Sponge.{absorbed_whole, added, lane_of};
 
 use crate::keccak::{LANES, State, keccak_f};
+use std::alloc::AllocError;
 use std::marker::Model;
 
 /// The most bytes that a block has: those of SHAKE128.
@@ -128,5 +129,21 @@ impl<const RATE: usize> Sponge<RATE> {
         let mut state = self.state;
         absorb(&mut state, &block[..RATE]);
         state
+    }
+}
+
+impl<const RATE: usize> Clone for Sponge<RATE> {
+    ghost use Rattle.std.specs.Prelude.{◌≡◌, ⊤};
+
+    ghost is_clone = { λ x y. y ≡ x };
+
+    ghost is_infallible = { λ _. ⊤ };
+
+    fn clone(&self) -> Result<Sponge<RATE>, AllocError> {
+        Ok(Sponge {
+            state: self.state,
+            buffer: self.buffer,
+            len: self.len,
+        })
     }
 }

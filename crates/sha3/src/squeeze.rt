@@ -97,3 +97,11 @@ impl<const RATE: usize> Squeezer<RATE> {
         count
     }
 }
+
+/// Fills `out` with the first bytes that are squeezed from a state.
+pub(crate) fn first_output<const RATE: usize>(state: &State, out: &mut [u8])
+    requires { IsRate RATE }
+    ensures { out.new ≡ output RATE state.now (length out.old) }
+{
+    Squeezer::<RATE>::new(state).read(out);
+}
