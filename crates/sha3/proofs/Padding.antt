@@ -1,5 +1,5 @@
 -- The last block of a message: its bytes, the bits behind it and the padding.
-use Rattle.std.proofs.Common.{◌≡◌, ℕ, zero, suc, ◌+◌, ◌-◌, ◌*◌, ◌/◌, ◌%◌, ◌<◌, ◌≤◌, ◌⊎◌, inl, inr, List, [], ◌∷◌, ◌++◌, length, take, drop, set, get_or, replicate, refl, sym, ap, ◌∙◌, arith, length-append}
+use Rattle.std.proofs.Common.{◌≡◌, ℕ, zero, suc, ◌+◌, ◌-◌, ◌*◌, ◌/◌, ◌%◌, ◌<◌, ◌≤◌, inl, inr, List, [], ◌∷◌, ◌++◌, length, take, drop, set, get_or, replicate, refl, sym, ap, ◌∙◌, arith, length-append}
 use Rattle.std.specs.Prelude.{bit_xor}
 use Rattle.std.proofs.lemmas.List.{append_assoc, drop-replicate, length-replicate, replicate-append-replicate}
 use Rattle.std.proofs.lemmas.Nat.{mod-mul-add}
@@ -8,7 +8,7 @@ use Rattle.std.proofs.Math.Seq.{get_or-append_seam, set-append_seam, take-append
 use Rattle.sha3.specs.Keccak.{keccak_f}
 use Rattle.sha3.specs.Pieces.{Absorbs, Held, IsDomain}
 use Rattle.sha3.specs.Sha3.{hash_suffix, xof_suffix}
-use Rattle.sha3.specs.Sponge.{absorbed, absorbed_whole, added, pad10star1, packed, padded}
+use Rattle.sha3.specs.Sponge.{absorbed_whole, added, pad10star1, packed, padded}
 use Rattle.sha3.proofs.Absorbing.{absorbed-more}
 
 -- the bytes behind a message that leaves k of its last block: the domain's bits, and the last bit

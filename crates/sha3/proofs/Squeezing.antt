@@ -1,9 +1,9 @@
 -- An output that is given piece by piece.
-use Rattle.std.proofs.Common.{◌≡◌, ℕ, zero, suc, ◌+◌, ◌-◌, ◌*◌, ◌/◌, ◌%◌, ◌<◌, ◌≤◌, List, [], ◌∷◌, ◌++◌, length, take, drop, get_or, min, refl, sym, ap, ap₂, ◌∙◌, arith, length-append, length-drop}
+use Rattle.std.proofs.Common.{◌≡◌, ℕ, zero, suc, ◌+◌, ◌*◌, ◌<◌, ◌≤◌, List, [], ◌∷◌, ◌++◌, length, take, drop, get_or, refl, sym, ap, ap₂, ◌∙◌, arith, length-append}
 use Rattle.std.specs.Int.{w64, to_le_bytes, div_ceil}
 use Rattle.std.proofs.lemmas.Grind.{div_ceil_times}
 use Rattle.std.proofs.lemmas.List.{append_assoc, append-nil, take-append-le, length-take-le}
-use Rattle.std.proofs.Math.Seq.{take-add, take-append-add, drop-append-add}
+use Rattle.std.proofs.Math.Seq.{take-add, drop-append-add}
 use Rattle.sha3.specs.Keccak.{chi, keccak_f, rounds}
 use Rattle.sha3.specs.Pieces.{Left, Squeezes, permuted}
 use Rattle.sha3.specs.Sponge.{output, squeezed, state_bytes}

@@ -1,4 +1,4 @@
-use Rattle.std.proofs.Common.{◌≡◌, ℕ, List, ◌+◌, length, ap, ◌∙◌, sym, arith}
+use Rattle.std.proofs.Common.{◌≡◌, ◌+◌, length, ap, ◌∙◌, sym, arith}
 use Rattle.sha3.specs.Sponge.{output}
 use Rattle.sha3.proofs.squeeze.first_output.Goals as goal
 

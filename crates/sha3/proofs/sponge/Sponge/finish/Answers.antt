@@ -1,8 +1,8 @@
-use Rattle.std.proofs.Common.{◌≡◌, ℕ, List, ◌∷◌, ◌++◌, ◌-◌, length, take, drop, replicate, set, get_or, arith, ◌∙◌, ap, sym, refl}
+use Rattle.std.proofs.Common.{◌≡◌, ℕ, List, ◌∷◌, ◌++◌, ◌-◌, length, take, drop, replicate, set, get_or, arith, ◌∙◌, ap, refl}
 use Rattle.std.proofs.lemmas.List.{length-take-le}
 use Rattle.std.specs.Prelude.{bit_xor}
 use Rattle.sha3.specs.Pieces.{Absorbs, Held}
-use Rattle.sha3.proofs.Padding.{absorbed_whole-is, padded-block, pad_bytes, rest-of-zeros}
+use Rattle.sha3.proofs.Padding.{absorbed_whole-is, padded-block, rest-of-zeros}
 use Rattle.sha3.proofs.sponge.Sponge.finish.Goals as goal
 
 pub returns : goal.returns

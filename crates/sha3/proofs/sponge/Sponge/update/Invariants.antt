@@ -1,4 +1,4 @@
-use Rattle.std.proofs.Common.{◌≡◌, ℕ, List, ◌++◌, ◌-◌, ◌≤◌, length, take}
+use Rattle.std.proofs.Common.{ℕ, List, ◌++◌, ◌-◌, ◌≤◌, length, take}
 use Rattle.sha3.specs.Pieces.{Absorbs}
 use Rattle.sha3.proofs.sponge.Sponge.update.Given as goal
 

@@ -1,4 +1,4 @@
-use Rattle.std.proofs.Common.{refl, arith, ◌∙◌, ap, List, ℕ, take}
+use Rattle.std.proofs.Common.{refl, arith, ◌∙◌, ap, take}
 use Rattle.std.proofs.lemmas.List.{take-take}
 use Rattle.sha3.specs.Sponge.{state_bytes}
 use Rattle.sha3.proofs.Squeezing.{Squeezes-none}

@@ -1,11 +1,9 @@
-use Rattle.std.proofs.Common.{◌≡◌, ◌≤◌, arith, ◌∙◌, ◌+◌, ◌-◌, ◌++◌, ap, sym, List, ℕ, take, drop, length, length-drop, length-append, subst}
-use Rattle.std.proofs.lemmas.List.{append_assoc, length-take-le, take-append-le, take_at}
-use Rattle.std.proofs.Math.Seq.{take-append-add}
+use Rattle.std.proofs.Common.{◌≡◌, ◌≤◌, arith, ◌∙◌, ◌+◌, ◌-◌, ◌++◌, ap, sym, List, ℕ, take, drop, length, length-drop, subst}
+use Rattle.std.proofs.lemmas.List.{append_assoc, length-take-le}
 use Rattle.sha3.specs.Pieces.{Squeezes}
 use Rattle.sha3.specs.Sponge.{output}
 use Rattle.sha3.proofs.Fronts.{length-put_part, take-put_rest}
 use Rattle.sha3.proofs.squeeze.Squeezer.read.Goals as goal
-use borrow.Rule.Slice.PartMut.{put_mid}
 
 pub loop-filled-preserved : goal.loop-filled-preserved
 loop-filled-preserved g c =
