@@ -1,0 +1,46 @@
+-- numbers near multiples, and their parts
+pub mod Near
+-- a hint recovers the high part
+pub mod HintLaw
+-- sums over ranges
+pub mod Sums
+-- powers
+pub mod Powers
+-- tables of weights that undo each other
+pub mod Undo
+-- sums of powers as products
+pub mod Geometric
+-- sums in another order
+pub mod Permuted
+-- the powers of the roots
+pub mod Roots
+-- the sums of the powers of the roots
+pub mod Cross
+-- the transform and its inverse undo each other
+pub mod Inverse
+-- the transform keeps sums
+pub mod SumLaw
+-- sums of the coefficients of a product
+pub mod Coefficients
+-- the transform of a product
+pub mod ProductLaw
+-- butterflies at places that differ
+pub mod Butterflies
+-- the places of a layer
+pub mod Groups
+-- a layer on remainders
+pub mod Remainders
+-- eight layers
+pub mod Eight
+-- the table of the zetas
+pub mod ZetaTable
+-- the loop over the butterflies of a layer
+pub mod LayerLoop
+-- the loops over the groups of a layer and over the butterflies of a group
+pub mod GroupLoop
+-- a layer, undone up to a factor
+pub mod Back
+-- eight layers back
+pub mod EightBack
+-- a list that is copied
+pub mod Copies

@@ -1,0 +1,10 @@
+use Rattle.std.proofs.Common.{◌≡◌, ◌<◌, ℕ, get_or, length}
+use Rattle.module_lattice.specs.Ring.{IsPolynomial}
+use Rattle.dsa_ring.proofs.arrays.numbers.Given as goal
+
+abbrev pub invariant-loop-i : goal.invariant-loop-i
+invariant-loop-i l = record {
+  size : length l.values ≡ 256;
+  copied : (k : ℕ) → k < l.i → get_or l.values k 0 ≡ get_or l.f k 0;
+  polynomial : 0 < l.i → IsPolynomial 8380417 l.f;
+}
