@@ -39,6 +39,15 @@ IsPolynomial-inverse h = record {
       rw (get_or-map-range_with_len (inverse_coefficient h) 0 256 k k d low (omega arith)) (mod-lt _ (omega arith));
 }
 
+pub IsPolynomial-transform : (f : List ℕ) → IsPolynomial 8380417 (transform f)
+unfolding transform
+IsPolynomial-transform f = record {
+  size = length-transform f;
+  each = λ k d inside.
+      let low : k < 256 = omega (arith, inside, length-map-range_with_len (transform_number f) 0 256) in
+      rw (get_or-map-range_with_len (transform_number f) 0 256 k k d low (omega arith)) (mod-lt _ (omega arith));
+}
+
 -- the inverse's weights, with the factor
 abbrev weight : ℕ → ℕ → ℕ
 weight j i = 8347681 * root i ^ (512 - j)

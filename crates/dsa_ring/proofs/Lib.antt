@@ -1,5 +1,7 @@
 -- numbers near multiples, and their parts
 pub mod Near
+-- parts make up the number, and how large they are
+pub mod Bounds
 -- a hint recovers the high part
 pub mod HintLaw
 -- sums over ranges

@@ -125,7 +125,7 @@ not-last gamma r k v near low =
 pub quotient-less : (k m : ℕ) → k < m → k / m ≡ 0
 quotient-less k m low = grind arith
 
-quotient-same : (k m : ℕ) → 1 ≤ m → k ≡ m → k / m ≡ 1
+pub quotient-same : (k m : ℕ) → 1 ≤ m → k ≡ m → k / m ≡ 1
 quotient-same k m positive same = grind arith
 
 -- r1 and r0

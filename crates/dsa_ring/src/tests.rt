@@ -17,9 +17,12 @@ use std::sync::ledger::{Blank, Ledger};
 fn laws_are_called(_rt: HostRuntime) {
     laws::layers_are_the_transform();
     laws::transforms_undo_each_other();
+    laws::transforms_are_polynomials();
     laws::transform_keeps_sums();
     laws::products_are_place_products();
     laws::parameters();
+    laws::parts_make_up_numbers();
+    laws::parts_are_bounded();
     laws::hints_recover_high_bits();
 }
 
