@@ -185,6 +185,13 @@ impl MemSink {
         }
     }
 
+    /// Which writes are to fail, by their numbers from 0. With none, only want of memory is a fault.
+    pub fn fail_at(&self) -> &[u64]
+        ensures { result.now ≡ self.now.fail_at }
+    {
+        self.fail_at.as_slice()
+    }
+
     /// What the sink got.
     pub fn bytes(&self) -> &[u8]
         ensures { result.now ≡ self.now.got }
