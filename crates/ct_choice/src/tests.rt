@@ -1,4 +1,4 @@
-//! Tables over the edges of each width: 0, 1, the highest bit and the greatest word.
+//! Each call once at each width, about its edges: 0, the highest bit and the greatest word.
 
 use crate::primitives::{
     borrowing_sub_mask_u32, borrowing_sub_mask_u64, borrowing_sub_u32, borrowing_sub_u64,
@@ -8,232 +8,192 @@ use crate::primitives::{
 use crate::{Choice, CtGt, CtLt, CtNeg};
 use std::cmp::Ordering;
 
-const EDGES: [u128; 8] = [
-    0,
-    1,
-    0x80,
-    0xff,
-    0xffff,
-    0x8000_0000,
-    0xffff_ffff_ffff_ffff,
-    0xffff_ffff_ffff_ffff_ffff_ffff_ffff_ffff,
-];
+const NO: Choice = Choice::FALSE;
 
-fn is_below<T: CtLt>(a: &T, b: &T) -> bool {
-    a.ct_lt(b).to_bool()
-}
-
-fn is_above<T: CtGt>(a: &T, b: &T) -> bool {
-    a.ct_gt(b).to_bool()
-}
-
-fn negated_twice<T: CtNeg>(x: &T) -> T {
-    let mut y = x.ct_neg(Choice::TRUE);
-    y.ct_neg_assign(Choice::TRUE);
-    y
-}
+const YES: Choice = Choice::TRUE;
 
 #[test]
-fn truth_tables(rt: HostRuntime) {
-    let (no, yes) = (Choice::FALSE, Choice::TRUE);
-    for (a, b, both, either, one) in [
-        (no, no, 0, 0, 0),
-        (no, yes, 0, 1, 1),
-        (yes, no, 0, 1, 1),
-        (yes, yes, 1, 1, 0),
-    ] {
-        assert_eq!(rt; a.and(b).to_u8(), both);
-        assert_eq!(rt; a.or(b).to_u8(), either);
-        assert_eq!(rt; a.xor(b).to_u8(), one);
-        assert_eq!(rt; a.ne(b).to_u8_vartime(), one);
-        assert_eq!(rt; a.eq(b).to_u8(), 1 - one);
-        assert_eq!(rt; u8::from(a & b), both);
-        assert_eq!(rt; u8::from(a | b), either);
-        assert_eq!(rt; u8::from(a ^ b), one);
-        let (mut x, mut y, mut z) = (a, a, a);
-        x &= b;
-        y |= b;
-        z ^= b;
-        assert_eq!(rt; x.to_u8(), both);
-        assert_eq!(rt; y.to_u8(), either);
-        assert_eq!(rt; z.to_u8(), one);
-    }
-    assert!(rt; bool::from(!no) && no.not().to_bool() && !yes.not().to_bool_vartime());
-    assert!(rt; Choice::from(3).to_bool() && !Choice::from(2).to_bool());
-}
-
-#[test]
-fn comparisons(rt: HostRuntime) {
-    for x in EDGES {
-        for y in EDGES {
-            let (equal, below, at_most) = (x == y, x < y, x <= y);
-            assert_eq!(rt; Choice::from_u128_eq(x, y).to_bool(), equal);
-            assert_eq!(rt; Choice::from_u128_lt(x, y).to_bool(), below);
-            assert_eq!(rt; Choice::from_u128_le(x, y).to_bool(), at_most);
-            let (x, y) = (
-                (x & 0xffff_ffff_ffff_ffff) as u64,
-                (y & 0xffff_ffff_ffff_ffff) as u64,
-            );
-            assert_eq!(rt; Choice::from_u64_eq(x, y).to_bool(), x == y);
-            assert_eq!(rt;
-                Choice::from_i64_eq(x.cast_signed(), y.cast_signed()).to_bool(),
-                x == y
-            );
-            assert_eq!(rt; Choice::from_u64_lt(x, y).to_bool(), x < y);
-            assert_eq!(rt; Choice::from_u64_le(x, y).to_bool(), x <= y);
-            let (x, y) = ((x & 0xffff_ffff) as u32, (y & 0xffff_ffff) as u32);
-            assert_eq!(rt; Choice::from_u32_eq(x, y).to_bool(), x == y);
-            assert_eq!(rt; Choice::from_u32_lt(x, y).to_bool(), x < y);
-            assert_eq!(rt; Choice::from_u32_le(x, y).to_bool(), x <= y);
-            let (x, y) = ((x & 0xffff) as u16, (y & 0xffff) as u16);
-            assert_eq!(rt; Choice::from_u16_eq(x, y).to_bool(), x == y);
-            assert_eq!(rt; Choice::from_u16_lt(x, y).to_bool(), x < y);
-            assert_eq!(rt; Choice::from_u16_le(x, y).to_bool(), x <= y);
-            let (x, y) = ((x & 0xff) as u8, (y & 0xff) as u8);
-            assert_eq!(rt; Choice::from_u8_eq(x, y).to_bool(), x == y);
-            assert_eq!(rt; Choice::from_u8_lt(x, y).to_bool(), x < y);
-            assert_eq!(rt; Choice::from_u8_le(x, y).to_bool(), x <= y);
-        }
-    }
-}
-
-#[test]
-fn bits_and_zeros(rt: HostRuntime) {
-    for (value, lowest, nonzero) in [(0, 0, 0), (1, 1, 1), (2, 0, 1), (0x80, 0, 1), (0xff, 1, 1)] {
-        assert_eq!(rt; Choice::from_u8_lsb(value).to_u8(), lowest);
-        assert_eq!(rt; Choice::from_u16_lsb(u16::from(value)).to_u8(), lowest);
-        assert_eq!(rt; Choice::from_u32_lsb(u32::from(value)).to_u8(), lowest);
-        assert_eq!(rt; Choice::from_u64_lsb(u64::from(value)).to_u8(), lowest);
-        assert_eq!(rt; Choice::from_u128_lsb(u128::from(value)).to_u8(), lowest);
-        assert_eq!(rt; Choice::from_u8_nz(value).to_u8(), nonzero);
-        assert_eq!(rt; Choice::from_u16_nz(u16::from(value) << 8).to_u8(), nonzero);
-        assert_eq!(rt;
-            Choice::from_u32_nz(u32::from(value) << 24).to_u8(),
-            nonzero
-        );
-        assert_eq!(rt;
-            Choice::from_u64_nz(u64::from(value) << 56).to_u8(),
-            nonzero
-        );
-        assert_eq!(rt;
-            Choice::from_u128_nz(u128::from(value) << 120).to_u8(),
-            nonzero
-        );
-    }
-}
-
-#[test]
-fn masks_and_selections(rt: HostRuntime) {
-    let (no, yes) = (Choice::FALSE, Choice::TRUE);
-    assert_eq!(rt; (no.to_u8_mask(), yes.to_u8_mask()), (0, 0xff));
-    assert_eq!(rt; (no.to_u16_mask(), yes.to_u16_mask()), (0, 0xffff));
-    assert_eq!(rt; (no.to_u32_mask(), yes.to_u32_mask()), (0, 0xffff_ffff));
-    assert_eq!(rt; (no.to_u64_mask(), yes.to_u64_mask()), (0, u64::MAX));
-    assert_eq!(rt; (no.to_u128_mask(), yes.to_u128_mask()), (0, u128::MAX));
-    assert_eq!(rt; (no.select_u8(1, 0xff), yes.select_u8(1, 0xff)), (1, 0xff));
-    assert_eq!(rt;
-        (no.select_u16(1, 0x8000), yes.select_u16(1, 0x8000)),
-        (1, 0x8000)
+fn connectives(rt: HostRuntime) {
+    assert!(rt;
+        [
+            NO.and(YES).to_u8(),
+            NO.or(YES).to_u8(),
+            YES.xor(YES).to_u8()
+        ] == [0, 1, 0]
     );
-    assert_eq!(rt; (no.select_u32(7, 9), yes.select_u32(7, 9)), (7, 9));
-    assert_eq!(rt;
-        (no.select_u64(0, u64::MAX), yes.select_u64(0, u64::MAX)),
-        (0, u64::MAX)
-    );
-    assert_eq!(rt;
-        (no.select_u128(0, u128::MAX), yes.select_u128(0, u128::MAX)),
-        (0, u128::MAX)
-    );
-    assert_eq!(rt;
-        (no.select_i64(i64::MIN, -1), yes.select_i64(i64::MIN, -1)),
-        (i64::MIN, -1)
+    assert!(rt; [NO.ne(YES).to_u8_vartime(), NO.eq(YES).to_u8()] == [1, 0]);
+    assert!(rt; NO.not().to_bool() && !YES.not().to_bool_vartime());
+}
+
+#[test]
+fn operators(rt: HostRuntime) {
+    assert!(rt; [u8::from(NO & YES), u8::from(NO | YES), u8::from(YES ^ YES)] == [0, 1, 0]);
+    assert!(rt; bool::from(!NO) && Choice::from(3).to_bool() && !Choice::from(2).to_bool());
+}
+
+#[test]
+fn assigning_operators(rt: HostRuntime) {
+    let (mut x, mut y, mut z) = (NO, NO, YES);
+    x &= YES;
+    y |= YES;
+    z ^= YES;
+    assert!(rt; [x.to_u8(), y.to_u8(), z.to_u8()] == [0, 1, 0]);
+}
+
+#[test]
+fn comparisons_of_8_bits(rt: HostRuntime) {
+    let equal = Choice::from_u8_eq(0xff, 0);
+    let below = Choice::from_u8_lt(7, 0xff);
+    let at_most = Choice::from_u8_le(0xff, 0xff);
+    assert!(rt; [equal.to_u8(), below.to_u8(), at_most.to_u8()] == [0, 1, 1]);
+}
+
+#[test]
+fn comparisons_of_16_bits(rt: HostRuntime) {
+    let equal = Choice::from_u16_eq(0xffff, 0);
+    let below = Choice::from_u16_lt(0x100, 0xffff);
+    let at_most = Choice::from_u16_le(0xffff, 0xffff);
+    assert!(rt; [equal.to_u8(), below.to_u8(), at_most.to_u8()] == [0, 1, 1]);
+}
+
+#[test]
+fn comparisons_of_32_bits(rt: HostRuntime) {
+    let equal = Choice::from_u32_eq(0xffff_ffff, 0);
+    let below = Choice::from_u32_lt(0x1_0000, 0xffff_ffff);
+    let at_most = Choice::from_u32_le(0xffff_ffff, 0xffff_ffff);
+    assert!(rt; [equal.to_u8(), below.to_u8(), at_most.to_u8()] == [0, 1, 1]);
+}
+
+#[test]
+fn comparisons_of_64_bits(rt: HostRuntime) {
+    let equal = Choice::from_u64_eq(u64::MAX, 0);
+    let below = Choice::from_u64_lt(1 << 32, u64::MAX);
+    let at_most = Choice::from_u64_le(u64::MAX, u64::MAX);
+    assert!(rt; [equal.to_u8(), below.to_u8(), at_most.to_u8()] == [0, 1, 1]);
+}
+
+#[test]
+fn comparisons_of_128_bits(rt: HostRuntime) {
+    let equal = Choice::from_u128_eq(u128::MAX, 0);
+    let below = Choice::from_u128_lt(1 << 64, u128::MAX);
+    let at_most = Choice::from_u128_le(u128::MAX, u128::MAX);
+    assert!(rt; [equal.to_u8(), below.to_u8(), at_most.to_u8()] == [0, 1, 1]);
+}
+
+#[test]
+fn equality_of_signed_numbers(rt: HostRuntime) {
+    let same = Choice::from_i64_eq(i64::MIN, i64::MIN);
+    assert!(rt; [same.to_u8(), Choice::from_i64_eq(1, -1).to_u8()] == [1, 0]);
+}
+
+#[test]
+fn lowest_bits(rt: HostRuntime) {
+    let narrow = [
+        Choice::from_u8_lsb(0xfe).to_u8(),
+        Choice::from_u16_lsb(0xffff).to_u8(),
+    ];
+    assert!(rt; narrow == [0, 1]);
+    let wide = [
+        Choice::from_u64_lsb(1 << 63).to_u8(),
+        Choice::from_u128_lsb(u128::MAX).to_u8(),
+    ];
+    assert!(rt; wide == [0, 1] && Choice::from_u32_lsb(3).to_bool());
+}
+
+#[test]
+fn numbers_that_are_not_zero(rt: HostRuntime) {
+    let narrow = [
+        Choice::from_u8_nz(0x80).to_u8(),
+        Choice::from_u16_nz(0).to_u8(),
+    ];
+    assert!(rt; narrow == [1, 0]);
+    let wide = [
+        Choice::from_u64_nz(1 << 63).to_u8(),
+        Choice::from_u128_nz(0).to_u8(),
+    ];
+    assert!(rt; wide == [1, 0] && Choice::from_u32_nz(1).to_bool());
+}
+
+#[test]
+fn masks(rt: HostRuntime) {
+    assert!(rt; [NO.to_u8_mask(), YES.to_u8_mask()] == [0, 0xff]);
+    assert!(rt; YES.to_u16_mask() == 0xffff && YES.to_u32_mask() == 0xffff_ffff);
+    assert!(rt; YES.to_u64_mask() == u64::MAX && YES.to_u128_mask() == u128::MAX);
+}
+
+#[test]
+fn selections(rt: HostRuntime) {
+    assert!(rt; [NO.select_u8(1, 0xff), YES.select_u8(1, 0xff)] == [1, 0xff]);
+    assert!(rt; YES.select_u16(1, 0x8000) == 0x8000 && NO.select_u32(7, 9) == 7);
+    assert!(rt; [NO.select_u64(0, u64::MAX), YES.select_u64(0, u64::MAX)] == [0, u64::MAX]);
+    assert!(rt;
+        YES.select_u128(0, u128::MAX) == u128::MAX && NO.select_i64(i64::MIN, -1) == i64::MIN
     );
 }
 
 #[test]
-fn borrows_and_carries(rt: HostRuntime) {
-    for (lhs, rhs, borrow, difference, out) in [
-        (0, 0, 0, 0, 0),
-        (0, 0, 1, u32::MAX, 1),
-        (0, 1, 0, u32::MAX, 1),
-        (5, 4, 1, 0, 0),
-        (0, u32::MAX, 1, 0, 1),
-        (0x8000_0000, 0x7fff_ffff, 0, 1, 0),
-        (u32::MAX, u32::MAX, 1, u32::MAX, 1),
-    ] {
-        let (low, choice) = borrowing_sub_u32(lhs, rhs, Choice::from_u8_lsb(borrow));
-        assert_eq!(rt; (low, choice.to_u8()), (difference, out));
-        let high_bit = u32::from(borrow) << 31 | 5;
-        let mask = Choice::from_u8_lsb(out).to_u32_mask();
-        assert_eq!(rt;
-            borrowing_sub_mask_u32(lhs, rhs, high_bit),
-            (difference, mask)
-        );
-    }
-    let (low, choice) = borrowing_sub_u64(0, u64::MAX, Choice::FALSE);
-    assert_eq!(rt; (low, choice.to_u8()), (1, 1));
-    assert_eq!(rt; borrowing_sub_mask_u64(3, 2, 1 << 63), (0, 0));
-    for (lhs, rhs, sum, out) in [
-        (1, 2, 3, 0),
-        (u64::MAX, 1, 0, 1),
-        (1 << 63, 1 << 63, 0, 1),
-        (u64::MAX, u64::MAX, u64::MAX - 1, 1),
-    ] {
-        let (low, carry) = overflowing_add_u64(lhs, rhs);
-        assert_eq!(rt; (low, carry.to_u8()), (sum, out));
-    }
+fn borrows_of_32_bits(rt: HostRuntime) {
+    let (low, borrow) = borrowing_sub_u32(0, u32::MAX, YES);
+    assert!(rt; low == 0 && borrow.to_bool());
+    // The highest bit of the mask alone counts.
+    let (low, mask) = borrowing_sub_mask_u32(5, 4, 0x8000_0005);
+    assert!(rt; low == 0 && mask == 0);
+}
+
+#[test]
+fn borrows_of_64_bits(rt: HostRuntime) {
+    let (low, borrow) = borrowing_sub_u64(0, u64::MAX, NO);
+    assert!(rt; low == 1 && borrow.to_bool());
+    let (low, mask) = borrowing_sub_mask_u64(3, 3, 1 << 63);
+    assert!(rt; low == u64::MAX && mask == u64::MAX);
+}
+
+#[test]
+fn carries(rt: HostRuntime) {
+    let (low, carry) = overflowing_add_u64(1 << 63, 1 << 63);
+    assert!(rt; low == 0 && carry.to_bool());
     let (low, carry) = overflowing_add_u128(u128::MAX, 2);
-    assert_eq!(rt; (low, carry.to_u8()), (1, 1));
+    assert!(rt; low == 1 && carry.to_bool());
 }
 
 #[test]
 fn counts_of_zeros(rt: HostRuntime) {
-    for (value, leading, trailing) in [(0, 32, 32), (1, 31, 0), (0x8000_0000, 0, 31), (12, 28, 2)] {
-        assert_eq!(rt;
-            (leading_zeros_u32(value), trailing_zeros_u32(value)),
-            (leading, trailing)
-        );
-    }
-    for (value, leading, trailing) in [(0, 64, 64), (1, 63, 0), (1 << 63, 0, 63), (12, 60, 2)] {
-        assert_eq!(rt;
-            (leading_zeros_u64(value), trailing_zeros_u64(value)),
-            (leading, trailing)
-        );
-    }
+    assert!(rt; [leading_zeros_u32(0), leading_zeros_u32(12)] == [32, 28]);
+    assert!(rt; [trailing_zeros_u32(0), trailing_zeros_u32(12)] == [32, 2]);
+    assert!(rt; [leading_zeros_u64(0), leading_zeros_u64(12)] == [64, 60]);
+    assert!(rt; [trailing_zeros_u64(0), trailing_zeros_u64(12)] == [64, 2]);
+}
+
+// Whether the first is below the second, by each trait.
+fn is_below<T: CtLt + CtGt>(a: &T, b: &T) -> bool {
+    a.ct_lt(b).to_bool() && b.ct_gt(a).to_bool()
 }
 
 #[test]
 fn orders(rt: HostRuntime) {
-    assert!(rt; is_below(&1u8, &0xff) && is_above(&0xffu8, &1) && !is_below(&1u8, &1));
-    assert!(rt; is_below(&1u16, &2) && is_above(&2u16, &1));
-    assert!(rt; is_below(&1u32, &2) && is_above(&2u32, &1));
-    assert!(rt; is_below(&1u64, &2) && is_above(&2u64, &1));
-    assert!(rt; is_below(&1u128, &2) && is_above(&2u128, &1));
-    assert!(rt; is_below(&1usize, &2) && is_above(&2usize, &1));
+    assert!(rt; is_below(&1u8, &0xff) && is_below(&1u16, &0x8000));
+    assert!(rt; is_below(&1u32, &u32::MAX) && is_below(&1u64, &u64::MAX));
+    assert!(rt; is_below(&1u128, &u128::MAX) && is_below(&1usize, &usize::MAX));
     assert!(rt; is_below(&Ordering::Less, &Ordering::Equal));
-    assert!(rt; is_above(&Ordering::Greater, &Ordering::Equal));
+}
+
+// Negated where the choice is true, and left where it is false.
+fn negated<T: CtNeg>(x: &T) -> T {
+    let mut y = x.ct_neg(YES);
+    y.ct_neg_assign(NO);
+    y
 }
 
 #[test]
-fn negations(rt: HostRuntime) {
-    let (no, yes) = (Choice::FALSE, Choice::TRUE);
-    assert_eq!(rt;
-        (5u8.ct_neg(no), 5u8.ct_neg(yes), 0u8.ct_neg(yes)),
-        (5, 251, 0)
-    );
-    assert_eq!(rt; (1u16.ct_neg(yes), 1u32.ct_neg(yes)), (u16::MAX, u32::MAX));
-    assert_eq!(rt;
-        (1u64.ct_neg(yes), 1u128.ct_neg(yes)),
-        (u64::MAX, u128::MAX)
-    );
-    assert_eq!(rt; (1usize.ct_neg(yes), 1isize.ct_neg(yes)), (usize::MAX, -1));
-    assert_eq!(rt;
-        (7i8.ct_neg(no), i8::MIN.ct_neg(yes), 7i16.ct_neg(yes)),
-        (7, i8::MIN, -7)
-    );
-    assert_eq!(rt;
-        (7i32.ct_neg(yes), 7i64.ct_neg(yes), 7i128.ct_neg(yes)),
-        (-7, -7, -7)
-    );
-    assert_eq!(rt; negated_twice(&9i16), 9);
+fn negations_of_words(rt: HostRuntime) {
+    assert!(rt; negated(&5u8) == 251 && negated(&1u16) == u16::MAX);
+    assert!(rt; negated(&1u32) == u32::MAX && negated(&1u64) == u64::MAX);
+    assert!(rt; negated(&1u128) == u128::MAX && negated(&1usize) == usize::MAX);
+}
+
+#[test]
+fn negations_of_signed_numbers(rt: HostRuntime) {
+    assert!(rt; negated(&i8::MIN) == i8::MIN && negated(&7i16) == -7);
+    assert!(rt; negated(&7i32) == -7 && negated(&7i64) == -7);
+    assert!(rt; negated(&7i128) == -7 && negated(&1isize) == -1);
 }
