@@ -21,10 +21,6 @@ fn is_same<T: CtEq>(a: &T, b: &T) -> bool {
     a.ct_eq(b).to_bool() && !a.ct_ne(b).to_bool()
 }
 
-fn five_if(is_some: Choice) -> CtOption<u8> {
-    CtOption::new(5, is_some)
-}
-
 // What each trait says of two different values.
 fn tells_apart<T: CtAssign + CtEq + CtSelect + Copy>(rt: &impl Abort, a: T, b: T) {
     assert!(rt; is_same(&a, &a) && !a.ct_eq(&b).to_bool() && a.ct_ne(&b).to_bool());
@@ -102,99 +98,88 @@ fn agreement(rt: HostRuntime) {
 }
 
 #[test]
-fn boxes_and_vectors(rt: HostRuntime) -> Result<(), Fail> {
+fn boxes(rt: HostRuntime) -> Result<(), Fail> {
     let (one, two) = (Box::new(rt.alloc(), 1u8)?, Box::new(rt.alloc(), 2u8)?);
     let mut taken = box_ct_select(rt.alloc(), &one, &two, YES)?;
-    assert_eq!(rt; *taken, 2);
+    assert!(rt; box_ct_eq(&taken, &two).to_bool());
     box_ct_assign(&mut taken, &one, YES);
-    assert!(rt; box_ct_eq(&taken, &one).to_bool() && !box_ct_eq(&taken, &two).to_bool());
-    let (a, b) = (vec![in rt.alloc(); 1u8, 2]?, vec![in rt.alloc(); 3u8, 4]?);
-    let mut v = vec_ct_select(rt.alloc(), &a, &b, NO)?;
-    assert_eq!(rt; v.as_slice(), [1, 2].as_slice());
-    assert!(rt; vec_ct_eq(&v, &a).to_bool() && !vec_ct_eq(&v, &b).to_bool());
-    assert_eq!(rt; (v.len(), b.len()), (2, 2));
-    vec_ct_assign(&mut v, &b, YES);
-    assert!(rt; vec_ct_eq_slice(&v, &[3, 4]).to_bool());
-    assert_eq!(rt; v.len(), 2);
-    vec_ct_assign_slice(&mut v, &[9, 9], NO);
-    assert_eq!(rt; v.as_slice(), [3, 4].as_slice());
-    let c = vec![in rt.alloc(); 1u8, 2, 3]?;
-    assert!(rt; !vec_ct_eq_slice(&c, &[1, 2]).to_bool());
+    assert!(rt; *taken == 1);
     Ok(())
 }
 
 #[test]
-fn searches(rt: HostRuntime) {
-    let items = [1u8, 2, 3];
-    assert_eq!(rt; ct_lookup(&items, 2u32).into_option(), Some(3));
-    assert_eq!(rt; ct_lookup(&items, 3u32).into_option(), None);
-    assert_eq!(rt; ct_lookup(&items, 0u8).into_option(), Some(1));
-    assert_eq!(rt; ct_lookup(&items, 1u16).into_option(), Some(2));
-    assert_eq!(rt; ct_lookup(&items, 1u64 << 32).into_option(), None);
-    assert_eq!(rt; ct_lookup(&items, 1u128).into_option(), Some(2));
-    assert_eq!(rt; ct_lookup(&items, usize::MAX).into_option(), None);
-    let even_and_not_zero = |x: &u8| Choice::from_u8_lsb(*x).not() & Choice::from_u8_nz(*x);
-    assert_eq!(rt;
-        ct_find(&[0, 0, 0, 1, 2, 3], even_and_not_zero).into_option(),
-        Some(2)
-    );
-    assert_eq!(rt; ct_find(&[0, 1, 3], even_and_not_zero).into_option(), None);
+fn vectors(rt: HostRuntime) -> Result<(), Fail> {
+    let (a, b) = (vec![in rt.alloc(); 1u8, 2]?, vec![in rt.alloc(); 3u8, 4]?);
+    let mut v = vec_ct_select(rt.alloc(), &a, &b, NO)?;
+    assert!(rt; vec_ct_eq(&v, &a).to_bool());
+    assert!(rt; v.len() == 2 && b.len() == 2);
+    vec_ct_assign(&mut v, &b, YES);
+    assert!(rt; vec_ct_eq_slice(&v, &[3, 4]).to_bool());
+    Ok(())
 }
 
 #[test]
-fn options(rt: HostRuntime) {
-    for (is_some, some) in [(NO, None), (YES, Some(5u8))] {
-        let option = five_if(is_some);
-        assert_eq!(rt; option.is_some().to_bool(), some.is_some());
-        assert_eq!(rt; option.is_none().to_bool(), some.is_none());
-        assert_eq!(rt; *option.as_inner_unchecked(), 5);
-        assert_eq!(rt; option.to_inner_unchecked(), 5);
-        assert_eq!(rt; Option::<u8>::from(option), some);
-        assert_eq!(rt; option.into_option_copied(), some);
-        assert_eq!(rt; option.ok_or(1u8), some.ok_or(1));
-        assert_eq!(rt; option.unwrap_or(1), some.unwrap_or(1));
-        assert_eq!(rt; option.unwrap_or_default(), some.unwrap_or(0));
-    }
-    assert!(rt; is_same(&CtOption::new(1u8, NO), &CtOption::new(2, NO)));
-    assert!(rt; is_same(&CtOption::<u8>::none(), &CtOption::default()));
+fn vectors_and_slices(rt: HostRuntime) -> Result<(), Fail> {
+    let mut v = vec![in rt.alloc(); 3u8, 4]?;
+    vec_ct_assign_slice(&mut v, &[9, 9], NO);
+    assert!(rt; v.as_slice() == [3, 4].as_slice());
+    Ok(())
+}
+
+#[test]
+fn lookups(rt: HostRuntime) {
+    let items = [1u8, 2, 3];
+    assert!(rt; ct_lookup(&items, 0u8).unwrap_or(0) == 1);
+    assert!(rt; ct_lookup(&items, 1u16).unwrap_or(0) == 2);
+    assert!(rt; ct_lookup(&items, 2u32).unwrap_or(0) == 3);
+    assert!(rt; ct_lookup(&items, 1u64 << 32).is_none().to_bool());
+    assert!(rt; ct_lookup(&items, 1u128).unwrap_or(0) == 2);
+    assert!(rt; ct_lookup(&items, usize::MAX).is_none().to_bool());
+}
+
+#[test]
+fn searches(rt: HostRuntime) {
+    let is_odd = |x: &u8| Choice::from_u8_lsb(*x);
+    assert!(rt; ct_find(&[0, 2, 3, 5], is_odd).unwrap_or(0) == 3);
+    assert!(rt; ct_find(&[0, 2, 4], is_odd).is_none().to_bool());
+}
+
+#[test]
+fn some_values(rt: HostRuntime) {
+    let option = CtOption::some(5u8);
+    assert!(rt; option.is_some().to_bool() && !option.is_none().to_bool());
+    assert!(rt; option.expect_copied("") == 5 && option.unwrap() == 5);
+    assert!(rt; option.unwrap_or(1) == 5 && option.unwrap_or_default() == 5);
+    assert!(rt; *option.expect_ref("") == 5 && option.expect("") == 5);
+}
+
+#[test]
+fn hidden_values(rt: HostRuntime) {
+    let option = CtOption::new(5u8, NO);
+    assert!(rt; *option.as_inner_unchecked() == 5 && option.to_inner_unchecked() == 5);
+    assert!(rt; Option::<u8>::from(option).is_none() && option.into_option_copied().is_none());
+    assert!(rt; option.ok_or(1u8) == Err(1) && option.unwrap_or(1) == 1);
+    assert!(rt; is_same(&option, &CtOption::none()) && is_same(&option, &CtOption::default()));
 }
 
 #[test]
 fn joined_options(rt: HostRuntime) {
-    for (is_some, some) in [(NO, None), (YES, Some(5u8))] {
-        assert_eq!(rt;
-            five_if(is_some).and(CtOption::some(6i8)).into_option(),
-            some.and(Some(6))
-        );
-        assert_eq!(rt;
-            five_if(is_some).or(CtOption::some(6)).into_option(),
-            some.or(Some(6))
-        );
-        assert_eq!(rt;
-            five_if(is_some).xor(CtOption::some(6)).into_option(),
-            some.xor(Some(6))
-        );
-        assert_eq!(rt;
-            five_if(is_some).zip(CtOption::some(6i8)).into_option(),
-            some.zip(Some(6))
-        );
-        assert_eq!(rt; five_if(is_some).filter_by(YES).into_option(), some);
-        assert_eq!(rt; five_if(is_some).filter_by(NO).into_option(), None);
-    }
+    let (none, some) = (CtOption::new(5u8, NO), CtOption::some(6u8));
+    assert!(rt; none.and(some).is_none().to_bool() && none.or(some).unwrap_or(0) == 6);
+    assert!(rt; none.xor(some).unwrap_or(0) == 6 && some.xor(some).is_none().to_bool());
+    assert!(rt; none.zip(some).is_none().to_bool());
+    assert!(rt; some.filter_by(YES).unwrap_or(0) == 6 && some.filter_by(NO).is_none().to_bool());
 }
 
 #[test]
-fn some_options(rt: HostRuntime) {
-    let five = CtOption::some(5u8);
-    assert_eq!(rt; (five.expect(""), five.expect_copied("")), (5, 5));
-    assert_eq!(rt; (*five.expect_ref(""), five.unwrap()), (5, 5));
+fn inserted_values(rt: HostRuntime) {
     let mut option = CtOption::new(7u8, NO);
     option.insert_if(&8, NO);
-    assert_eq!(rt; option.into_option(), None);
+    assert!(rt; option.into_option().is_none());
     option.insert_if(&8, YES);
-    assert_eq!(rt; option.into_option(), Some(8));
+    assert!(rt; option.into_option() == Some(8));
     *option.insert(9) = 10;
-    assert_eq!(rt; option.into_option(), Some(10));
+    assert!(rt; option.into_option() == Some(10));
 }
 
 #[test]
@@ -249,10 +234,14 @@ fn closures(rt: HostRuntime) {
 
 #[test]
 fn answers_of_closures(rt: HostRuntime) {
-    for (is_some, some) in [(NO, None), (YES, Some(5u8))] {
-        assert_eq!(rt; five_if(is_some).map_or(0, |x| x), some.unwrap_or(0));
-        assert_eq!(rt; five_if(is_some).map_or_default(|x| x), some.unwrap_or(0));
-        let zipped = five_if(is_some).zip_with(CtOption::some(1u8), |x, y| x ^ y);
-        assert_eq!(rt; zipped.into_option(), some.map(|x| x ^ 1));
-    }
+    let option = CtOption::new(5u8, NO);
+    let mapped = option.map_or(1, |x| x);
+    let mapped_or_default = option.map_or_default(|x| x);
+    assert!(rt; mapped == 1 && mapped_or_default == 0);
+    assert!(rt;
+        option
+            .zip_with(CtOption::some(1u8), |x, y| x ^ y)
+            .is_none()
+            .to_bool()
+    );
 }
