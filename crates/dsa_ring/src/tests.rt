@@ -1,14 +1,14 @@
 // Each call is run once, against answers of an independent model.
 
-ghost use Rattle.std.specs.Prelude.{◌≡◌, ◌<◌};
-ghost use Rattle.module_lattice.specs.Ring.{product};
+ghost use Rattle.std.specs.Prelude.{◌≡◌, ◌≢◌, ◌+◌, ◌<◌};
+ghost use Rattle.module_lattice.specs.Ring.{IsPolynomial, butterfly, product};
 ghost use Rattle.dsa_ring.specs.Transform.{transform};
 
 use crate::{
     Gamma2, decompose, dsa_multiply, dsa_ntt, dsa_ntt_counted, dsa_ntt_inverse, high_bits, laws,
     low_bits, make_hint, model, power2round, use_hint,
 };
-use module_lattice::{Field8380417, Polynomial, Steps};
+use module_lattice::{Butterflies, Elem, Field, Field8380417, Polynomial, Steps};
 use std::marker::Brand;
 use std::process::Abort;
 use std::sync::ledger::{Blank, Ledger};
@@ -85,11 +85,54 @@ fn counts_from_none<L: Ledger>(values: &mut Polynomial<Field8380417>, blank: Bla
     dsa_ntt_counted(values, &mut steps);
 }
 
+// Values that note how many butterflies changed them.
+#[derive(Drop)]
+struct Noted<F: Field> {
+    polynomial: Polynomial<F>,
+    noted: u32,
+}
+
+impl<F: Field, L: Ledger> Butterflies<F, L> for Noted<F> {
+    ghost values = { λ v. v.polynomial };
+
+    fn butterfly(&mut self, i: usize, j: usize, zeta: Elem<F>, steps: &mut Steps<L>)
+        requires first { i < 256 }
+        requires second { j < 256 }
+        requires apart { i ≢ j }
+        ensures changed { self.new.polynomial ≡ butterfly F.Q i j zeta self.old.polynomial }
+        ensures before { IsPolynomial F.Q self.old.polynomial }
+        ensures after { IsPolynomial F.Q self.new.polynomial }
+        ensures counted { steps.new ≡ steps.old + 1 }
+    {
+        self.polynomial.butterfly(i, j, zeta, steps);
+        self.noted = self.noted.wrapping_add(1);
+    }
+}
+
+// The same of these values.
+fn notes_from_none<L: Ledger>(values: &mut Noted<Field8380417>, blank: Blank)
+    requires name { blank.name ≡ L.name }
+    requires parts { blank.parts ≡ L.parts }
+    requires some { 0 < blank.parts }
+    ensures { values.new.polynomial ≡ transform values.old.polynomial }
+{
+    let mut steps = Steps::<L>::new(blank);
+    dsa_ntt_counted(values, &mut steps);
+}
+
 #[test]
 fn x_is_transformed_in_1024_steps(rt: HostRuntime) {
     let mut f = power_of_x(&rt, 1);
     counts_from_none::<Brand>(&mut f, Blank::new(1));
     assert!(rt; f.into_array() == model::OF_X);
+
+    let mut values = Noted {
+        polynomial: power_of_x(&rt, 1),
+        noted: 0,
+    };
+    notes_from_none::<Brand>(&mut values, Blank::new(1));
+    assert!(rt; values.polynomial.into_array() == model::OF_X);
+    assert_eq!(rt; values.noted, 1024);
 }
 
 #[test]
