@@ -1,13 +1,13 @@
 -- How long the outputs are, and that they are bytes.
-use Rattle.std.proofs.Common.{◌≡◌, ℕ, zero, suc, ◌*◌, ◌<◌, ◌≤◌, List, [], ◌∷◌, length, take, All, arith, refl}
+use Rattle.std.proofs.Common.{◌≡◌, ℕ, zero, suc, ◌*◌, ◌<◌, ◌≤◌, List, [], ◌∷◌, length, take, All, arith, refl, sym, ◌∙◌}
 use Rattle.std.specs.Int.{w64, to_le_bytes, byte_at, div_ceil}
 use Rattle.std.proofs.lemmas.Grind.{div_ceil_times}
-use Rattle.std.proofs.lemmas.List.{length-take-le}
+use Rattle.std.proofs.lemmas.List.{length-take-le, take-take}
 use Rattle.std.proofs.lemmas.List.Elements.{All-append, All-cons, All-nil, All-take}
 use Rattle.sha3.specs.Keccak.{keccak_f}
 use Rattle.sha3.specs.Sha3.{hash_suffix, xof_suffix, sha3_256, sha3_512, shake128, shake256}
 use Rattle.sha3.specs.Sponge.{absorbed, absorbed_whole, output, padded, squeezed, state_bytes}
-use Rattle.sha3.proofs.Squeezing.{length-keccak_f, length-squeezed}
+use Rattle.sha3.proofs.Squeezing.{length-keccak_f, length-squeezed, output-at}
 
 abbrev IsByte : ℕ → Type 0
 IsByte x = x < 256
@@ -80,3 +80,17 @@ All-shake128 m d = All-output 168 (absorbed_whole 168 xof_suffix m) d
 
 pub All-shake256 : (m : List ℕ) (d : ℕ) → All (λ x. x < 256) (shake256 m d)
 All-shake256 m d = All-output 136 (absorbed_whole 136 xof_suffix m) d
+
+-- fewer bytes of an output are the front of more
+take-output : (rate : ℕ) (a : List ℕ) (d e : ℕ) → 0 < rate → rate ≤ 200 → length a ≡ 25 → d ≤ e → take d (output rate a e) ≡ output rate a d
+unfolding output
+take-output rate a d e positive most is fewer =
+    let enough : e ≤ div_ceil e rate * rate = (div_ceil_times e rate positive).0 in
+    take-take d e (squeezed rate a (div_ceil e rate)) fewer
+    ∙ sym (output-at rate a (div_ceil e rate) d positive most is (omega (arith, fewer, enough)))
+
+pub take-shake128 : (m : List ℕ) (d e : ℕ) → d ≤ e → take d (shake128 m e) ≡ shake128 m d
+take-shake128 m d e = take-output 168 (absorbed_whole 168 xof_suffix m) d e (omega arith) (omega arith) (length-absorbed_whole 168 xof_suffix m)
+
+pub take-shake256 : (m : List ℕ) (d e : ℕ) → d ≤ e → take d (shake256 m e) ≡ shake256 m d
+take-shake256 m d e = take-output 136 (absorbed_whole 136 xof_suffix m) d e (omega arith) (omega arith) (length-absorbed_whole 136 xof_suffix m)

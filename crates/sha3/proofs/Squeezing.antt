@@ -77,7 +77,7 @@ take-squeezed rate a n (suc j) d most is within =
     ∙ take-squeezed rate a n j d most is within
 
 -- the output is the front of as many blocks as it needs, or more
-output-at : (rate : ℕ) (a : List ℕ) (n d : ℕ) → 0 < rate → rate ≤ 200 → length a ≡ 25 → d ≤ n * rate → output rate a d ≡ take d (squeezed rate a n)
+pub output-at : (rate : ℕ) (a : List ℕ) (n d : ℕ) → 0 < rate → rate ≤ 200 → length a ≡ 25 → d ≤ n * rate → output rate a d ≡ take d (squeezed rate a n)
 unfolding output
 output-at rate a n d positive most is within =
     let q : ℕ = div_ceil d rate in

@@ -1,6 +1,6 @@
 //! What holds of the definitions that the contracts of this crate cite.
 
-ghost use Rattle.std.specs.Prelude.{◌≡◌, ◌<◌, ℕ, List, All, length, map};
+ghost use Rattle.std.specs.Prelude.{◌≡◌, ◌<◌, ◌≤◌, ℕ, List, All, length, map, take};
 ghost use Rattle.std.specs.List.{range_with_len};
 ghost use Rattle.sha3.specs.Keccak.{offset_at, offsets, round_constant, round_constants};
 ghost use Rattle.sha3.specs.Sha3.{sha3_256, sha3_512, shake128, shake256};
@@ -29,4 +29,10 @@ pub fn bytes()
     ensures sha3_512 { (m : List ℕ) → All (λ x. x < 256) (sha3_512 m) }
     ensures shake128 { (m : List ℕ) (d : ℕ) → All (λ x. x < 256) (shake128 m d) }
     ensures shake256 { (m : List ℕ) (d : ℕ) → All (λ x. x < 256) (shake256 m d) }
+{}
+
+/// Fewer bytes of an output are the front of more.
+pub fn outputs_are_fronts()
+    ensures shake128 { (m : List ℕ) (d e : ℕ) → d ≤ e → take d (shake128 m e) ≡ shake128 m d }
+    ensures shake256 { (m : List ℕ) (d e : ℕ) → d ≤ e → take d (shake256 m e) ≡ shake256 m d }
 {}

@@ -163,6 +163,7 @@ fn other_calls(rt: HostRuntime) -> Result<(), Fail> {
     laws::round_constants_by_rule();
     laws::lengths();
     laws::bytes();
+    laws::outputs_are_fronts();
     assert_eq!(rt; Sha3_256::output_size(), 32);
     assert_eq!(rt; Sha3_512::output_size(), 64);
     let empty = format!(in rt.alloc();
