@@ -1,7 +1,7 @@
 //! The trait of a family of hash functions.
 
-ghost use Rattle.std.specs.Prelude.{◌≡◌, ◌<◌, ◌++◌};
-ghost use Rattle.kem_hash.specs.Family.{Family, IsLawful, xof_block};
+ghost use Rattle.std.specs.Prelude.{◌≡◌, ◌*◌, ◌%◌, ◌<◌, ◌≤◌, ◌++◌, length, take};
+ghost use Rattle.kem_hash.specs.Family.{Family, IsLawful, xof_block, xof_size};
 
 /// The bytes that [`KemHash::xof_block`] gives at a time.
 pub const XOF_BLOCK_SIZE: usize = 168;
@@ -37,6 +37,21 @@ pub trait KemHash {
     fn xof_block(rho: &[u8; 32], a: u8, b: u8, n: u8) -> [u8; XOF_BLOCK_SIZE]
         requires { n < 16 }
         ensures { result ≡ xof_block (family.xof_of rho.now a b) n };
+
+    /// The first blocks of XOF for a seed and two bytes, one behind another: as many bytes of its output
+    /// as `out` has, which are whole blocks, 16 at most. The body here makes each by
+    /// [`KemHash::xof_block`]; a family whose XOF goes on where it stopped makes all in one go.
+    fn xof_blocks(rho: &[u8; 32], a: u8, b: u8, out: &mut [u8])
+        requires whole { length out.old % 168 ≡ 0 }
+        requires within { length out.old ≤ xof_size }
+        ensures { out.new ≡ take (length out.old) (family.xof_of rho.now a b) }
+    {
+        for n in 0..out.len() / XOF_BLOCK_SIZE {
+            let start = XOF_BLOCK_SIZE * n;
+            let block = Self::xof_block(rho, a, b, n as u8);
+            out[start..start + XOF_BLOCK_SIZE].copy_from_slice(&block);
+        }
+    }
 
     ghost is_lawful: { IsLawful family };
 }

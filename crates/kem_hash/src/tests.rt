@@ -73,6 +73,24 @@ fn xof_by_its_blocks(rt: HostRuntime) {
     assert!(rt; Sha2Hash::xof_block(RHO, 255, 254, 15) == *LAST_BLOCK);
 }
 
+// The first bytes of the output of a family's XOF.
+fn first_blocks<H: KemHash>(rho: &[u8; 32]) -> [u8; 504] {
+    let mut out = [0; 504];
+    H::xof_blocks(rho, 255, 254, &mut out);
+    out
+}
+
+#[test]
+fn first_blocks_of_xof(rt: HostRuntime) {
+    let blocks = first_blocks::<Sha2Hash>(RHO);
+    for n in 0..3 {
+        assert_eq!(rt;
+            &blocks[168 * n..168 * n + 168],
+            Sha2Hash::xof_block(RHO, 255, 254, n as u8).as_slice()
+        );
+    }
+}
+
 #[test]
 fn laws_are_called(_rt: HostRuntime) {
     laws::sha2_texts();

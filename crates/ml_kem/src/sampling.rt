@@ -16,6 +16,12 @@ use std::marker::Model;
 // The blocks of an output of XOF.
 const BLOCKS: u8 = 16;
 
+// The blocks that are asked for in one go: they hold 336 numbers, enough for 99 samples in 100.
+const FIRST_BLOCKS: u8 = 3;
+
+// The bytes of those blocks.
+const FIRST_SIZE: usize = 504;
+
 // The narrower of the two widths of noise.
 const NARROW: usize = 2;
 
@@ -25,14 +31,19 @@ const NARROW: usize = 2;
 pub fn sample_ntt<H: KemHash>(rho: &B32, a: u8, b: u8) -> Option<NttPolynomial<BaseField>>
     ensures { result ≡ sample (H.family.xof_of rho.now a b) }
 {
+    let mut first = [0; FIRST_SIZE];
+    H::xof_blocks(rho, a, b, &mut first);
     let mut sampler = Sampler::new();
-    for n in 0..BLOCKS {
-        sampler.take_block(&H::xof_block(rho, a, b, n));
-        if sampler.is_full() {
-            return Some(sampler.into_polynomial());
+    sampler.take_block(&first);
+    let mut n = FIRST_BLOCKS;
+    while !sampler.is_full() {
+        if n == BLOCKS {
+            return None;
         }
+        sampler.take_block(&H::xof_block(rho, a, b, n));
+        n += 1;
     }
-    None
+    Some(sampler.into_polynomial())
 }
 
 /// SamplePolyCBD: the polynomial whose coefficients are differences of sums of `eta` bits, for an
