@@ -134,3 +134,18 @@ crossed i k inside inside2 =
     ∙ ap (λ y. y % 8380417) (over-times 0 256 8347681 (λ j. x ^ j))
     ∙ times-mod 8380417 8347681 8347681 (over 0 256 (λ j. x ^ j)) (if ratio i k % 256 == 0 then 256 else 0) refl (power_sum (ratio i k))
     ∙ tested i k (ratio i k % 256) inside inside2 refl
+
+-- ---- the roots differ
+
+pub roots-differ : (i k : ℕ) → i < 256 → k < 256 → root i ≡ root k → i ≡ k
+roots-differ i k inside inside2 same = elim (cases_eq k i) [
+  | inl is ↦ sym is
+  | inr apart ↦
+      let units : unit i i % 8380417 ≡ unit i k % 8380417 =
+      sym (crossed i i inside inside)
+      ∙ ap (λ (r : ℕ). over 0 256 (λ j. root i ^ j * (8347681 * r ^ (512 - j))) % 8380417) same
+      ∙ crossed i k inside inside2 in
+      let one : unit i i ≡ 1 = unit-same i i refl in
+      let none : unit i k ≡ 0 = unit-other i k apart in
+      absurd (omega (arith, units, one, none))
+]

@@ -1,11 +1,11 @@
 //! What holds of the transform, of its inverse, and of hints.
 
-ghost use Rattle.std.specs.Prelude.{◌≡◌, ◌+◌, ◌-◌, ◌*◌, ◌/◌, ◌^◌, ◌<◌, ◌≤◌, ◌⊎◌, ◌+ℤ◌, ◌≤ℤ◌, Bool, List, ℕ, ℤ, negsuc, pos, unsigned_abs};
+ghost use Rattle.std.specs.Prelude.{◌≡◌, ◌+◌, ◌-◌, ◌*◌, ◌/◌, ◌%◌, ◌^◌, ◌<◌, ◌≤◌, ◌⊎◌, ◌+ℤ◌, ◌≤ℤ◌, Bool, List, ℕ, ℤ, negsuc, pos, unsigned_abs};
 ghost use Rattle.module_lattice.specs.Ring.{IsPolynomial, product, sum};
 ghost use Rattle.dsa_ring.specs.declared.rounding.Gamma2.{Gamma2};
 ghost use Rattle.dsa_ring.specs.Layers.{layers, inverse_layers};
 ghost use Rattle.dsa_ring.specs.Rounding.{gamma2, high_bits, high_count, low_bits, make_hint, plus_signed, power2round_high, power2round_low, use_hint};
-ghost use Rattle.dsa_ring.specs.Transform.{inverse_transform, place_products, transform};
+ghost use Rattle.dsa_ring.specs.Transform.{inverse_transform, place_products, root, transform};
 
 /// Eight layers of butterflies make the transform, and eight layers from the last, with the factor
 /// 8347681, its inverse.
@@ -24,6 +24,16 @@ pub fn transforms_undo_each_other()
 pub fn transforms_are_polynomials()
     ensures transform { (f : List ℕ) → IsPolynomial 8380417 (transform f) }
     ensures inverse { (h : List ℕ) → IsPolynomial 8380417 (inverse_transform h) }
+{}
+
+/// The transform takes a polynomial at the roots h(0) to h(255) of X^256 + 1, which all differ. They are
+/// powers of 1753, a primitive 512th root of 1, since its 256th power is q - 1 (FIPS 204, section 2.5).
+/// 8347681 is 1/256 (section 7.5, algorithm 42).
+pub fn roots_of_unity()
+    ensures primitive { 1753 ^ 256 % 8380417 ≡ 8380416 }
+    ensures roots { (i : ℕ) → i < 256 → root i ^ 256 % 8380417 ≡ 8380416 }
+    ensures differ { (i k : ℕ) → i < 256 → k < 256 → root i ≡ root k → i ≡ k }
+    ensures factor { 8347681 * 256 % 8380417 ≡ 1 }
 {}
 
 /// The transform of a sum is the sum of the transforms.

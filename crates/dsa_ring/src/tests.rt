@@ -18,6 +18,7 @@ fn laws_are_called(_rt: HostRuntime) {
     laws::layers_are_the_transform();
     laws::transforms_undo_each_other();
     laws::transforms_are_polynomials();
+    laws::roots_of_unity();
     laws::transform_keeps_sums();
     laws::products_are_place_products();
     laws::parameters();
@@ -133,6 +134,18 @@ fn x_is_transformed_in_1024_steps(rt: HostRuntime) {
     notes_from_none::<Brand>(&mut values, Blank::new(1));
     assert!(rt; values.polynomial.into_array() == model::OF_X);
     assert_eq!(rt; values.noted, 1024);
+}
+
+#[test]
+fn parameters_of_the_standard(rt: HostRuntime) {
+    assert_eq!(rt;
+        (Gamma2::Q88.value(), Gamma2::Q88.high_count()),
+        (95232, 44)
+    );
+    assert_eq!(rt;
+        (Gamma2::Q32.value(), Gamma2::Q32.high_count()),
+        (261888, 16)
+    );
 }
 
 #[test]
