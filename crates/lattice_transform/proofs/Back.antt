@@ -1,15 +1,16 @@
--- A layer, undone up to a factor.
-use Rattle.std.proofs.Common.{◌≡◌, ℕ, zero, suc, ◌+◌, ◌-◌, ◌*◌, ◌/◌, ◌%◌, ◌<◌, ◌≤◌, List, length, get_or, refl, sym, ap, ap₂, subst, ◌∙◌, inl, inr, arith, mul-le-mul_left}
-use Rattle.std.proofs.Math.Nat.{add-mul-mod_self_left, div-add-mod, mod-lt, mod-mod, mul-add, mul_assoc, mul_comm, mul_left_comm}
+-- A layer, undone up to a factor, for any modulus q and any zetas.
+use Rattle.std.proofs.Common.{◌≡◌, ℕ, zero, suc, ◌+◌, ◌-◌, ◌*◌, ◌/◌, ◌%◌, ◌<◌, ◌≤◌, List, length, get_or, map, refl, sym, ap, ap₂, subst, ◌∙◌, inl, inr, arith, mul-le-mul_left}
+use Rattle.std.specs.List.{range_with_len}
+use Rattle.std.proofs.Math.Nat.{add-mul-mod_self_left, div-add-mod, mod-eq_of_lt, mod-lt, mod-mod, mul-add, mul_assoc, mul_comm, mul_left_comm}
 use Rattle.std.proofs.lemmas.Bool.{cases_lt}
 use Rattle.std.proofs.lemmas.Nat.{mul-mod_second}
 use Rattle.module_lattice.specs.Ring.{minus, plus, times}
-use Rattle.lattice_transform.specs.Layers.{first_place, inverse_butterflies, inverse_layer, layer, zeta}
-use Rattle.lattice_transform.proofs.Butterflies.{Stage, Step, next_stage, no_stage}
-use Rattle.lattice_transform.proofs.Groups.{LayerStage, are-apart, group-below, layer-stage}
-use Rattle.lattice_transform.proofs.Products.{negative}
+use Rattle.lattice_transform.specs.Layers.{first_place}
+use Rattle.lattice_transform.proofs.Groups.{BackStage, LayerStage, are-apart, group-below}
+use Rattle.lattice_transform.proofs.Negation.{minus_one-square, negative}
 use Rattle.lattice_transform.proofs.Remainders.{butterfly-of, first-at}
 use Rattle.lattice_transform.proofs.Sums.{plus-mod, times-mod}
+use Rattle.lattice_transform.proofs.Tables.{from_table}
 
 -- ---- each place is one of a butterfly
 
@@ -41,106 +42,101 @@ module _ (m t : ℕ) (positive : 1 ≤ m) (whole : m * t ≡ 128) (P : ℕ → T
       let is : (2 * (n / m / 2) + n / m % 2) * m + n % m ≡ n = ap (λ (b : ℕ). b * m + n % m) half ∙ ap (λ x. x + n % m) (mul_comm (n / m) m) ∙ div-add-mod n m in
       in-group (n / m / 2) (n / m % 2) (n % m) n (omega arith) (omega arith) (mod-lt n positive) is
 
--- ---- the butterflies of the way back
-
-abbrev pub both_sum : Step
-both_sum z a b = plus 3329 a b
-
-abbrev pub turned_difference : Step
-turned_difference z a b = times 3329 z (minus 3329 b a)
-
-abbrev pub BackStage : ℕ → List ℕ → ℕ → List ℕ → Type 0
-BackStage m f n v = Stage both_sum turned_difference (first_place m) (λ k. first_place m k + m) (λ k. zeta (2 * (128 / m) - 1 - k / m)) f n v
-
-back-stages : (m t n : ℕ) (f : List ℕ) → 1 ≤ m → m * t ≡ 128 → length f ≡ 256 → n ≤ 128 → BackStage m f n (inverse_butterflies m n f)
-unfolding inverse_butterflies
-back-stages m t zero f positive whole long low =
-    no_stage both_sum turned_difference (first_place m) (λ k. first_place m k + m) (λ k. zeta (2 * (128 / m) - 1 - k / m)) f long
-back-stages m t (suc n) f positive whole long low =
-    next_stage both_sum turned_difference (first_place m) (λ k. first_place m k + m) (λ k. zeta (2 * (128 / m) - 1 - k / m)) f n (inverse_butterflies m n f)
-    (are-apart m t positive whole) (omega arith) (back-stages m t n f positive whole long (omega arith))
-
-pub back-stage : (m t : ℕ) (f : List ℕ) → 1 ≤ m → m * t ≡ 128 → length f ≡ 256 → BackStage m f 128 (inverse_layer m f)
-back-stage m t f positive whole long = back-stages m t 128 f positive whole long (omega arith)
-
 -- ---- what one butterfly makes of what another made
 
--- a + b, where a and b are c times x + zeta·y and x - zeta·y
-sum-undone : (c x z y : ℕ) → plus 3329 (c * plus 3329 x (times 3329 z y) % 3329) (c * minus 3329 x (times 3329 z y) % 3329) ≡ 2 * c * x % 3329
-sum-undone c x z y =
-    let u : ℕ = z * y % 3329 in
-    let small : u < 3329 = omega arith in
-    let a : ℕ = x + u in
-    let b : ℕ = x + (3329 - u) in
-    let both : a + b ≡ 2 * x + 3329 * 1 = omega arith in
-    plus-mod 3329 (c * (a % 3329) % 3329) (c * a) (c * (b % 3329) % 3329) (c * b)
-    (mod-mod (c * (a % 3329)) 3329 ∙ mul-mod_second c a 3329) (mod-mod (c * (b % 3329)) 3329 ∙ mul-mod_second c b 3329)
-    ∙ ap (λ n. n % 3329) (sym (mul-add c a b))
-    ∙ times-mod 3329 c c (a + b) (2 * x) refl (ap (λ n. n % 3329) both ∙ add-mul-mod_self_left (2 * x) 3329 1)
-    ∙ ap (λ n. n % 3329) (mul_left_comm c 2 x ∙ sym (mul_assoc 2 c x))
+collected : (p c x w : ℕ) → c * (x + p * w) + p * (c * (x + w)) ≡ c * (2 * (p * w)) + (p + 1) * (c * x)
+collected p c x w = grind arith
 
--- x + 3328·w is x - w
-minus-is : (x w : ℕ) → minus 3329 x (w % 3329) % 3329 ≡ (x + 3328 * w) % 3329
-minus-is x w = mod-mod (x + (3329 - w % 3329)) 3329 ∙ plus-mod 3329 x x (3329 - w % 3329) (3328 * w) refl (negative w)
+regrouped : (p z2 c z y : ℕ) → z2 * (c * (2 * (p * (z * y)))) ≡ z2 * z * p * (2 * c * y)
+regrouped p z2 c z y = grind arith
 
-collected : (c x w : ℕ) → c * (x + 3328 * w) + 3328 * (c * (x + w)) ≡ c * (2 * (3328 * w)) + 3329 * (c * x)
-collected c x w = grind arith
+module _ (q : ℕ) (positive_q : 1 ≤ q) where
+  -- a + b, where a and b are c times x + zeta·y and x - zeta·y
+  sum-undone : (c x z y : ℕ) → plus q (c * plus q x (times q z y) % q) (c * minus q x (times q z y) % q) ≡ 2 * c * x % q
+  sum-undone c x z y =
+      let u : ℕ = z * y % q in
+      let small : u < q = mod-lt (z * y) positive_q in
+      let a : ℕ = x + u in
+      let b : ℕ = x + (q - u) in
+      let both : a + b ≡ 2 * x + q * 1 = omega arith in
+      plus-mod q (c * (a % q) % q) (c * a) (c * (b % q) % q) (c * b)
+      (mod-mod (c * (a % q)) q ∙ mul-mod_second c a q) (mod-mod (c * (b % q)) q ∙ mul-mod_second c b q)
+      ∙ ap (λ n. n % q) (sym (mul-add c a b))
+      ∙ times-mod q c c (a + b) (2 * x) refl (ap (λ n. n % q) both ∙ add-mul-mod_self_left (2 * x) q 1)
+      ∙ ap (λ n. n % q) (mul_left_comm c 2 x ∙ sym (mul_assoc 2 c x))
 
-regrouped : (z2 c z y : ℕ) → z2 * (c * (2 * (3328 * (z * y)))) ≡ z2 * z * 3328 * (2 * c * y)
-regrouped z2 c z y = grind arith
+  -- x + (q - 1)·w is x - w
+  minus-is : (x w : ℕ) → minus q x (w % q) % q ≡ (x + (q - 1) * w) % q
+  minus-is x w = mod-mod (x + (q - w % q)) q ∙ plus-mod q x x (q - w % q) ((q - 1) * w) refl (negative q w positive_q)
 
--- zeta'·(b - a), where zeta'·zeta is -1
-difference-undone : (c x z z2 y : ℕ) → z2 * z % 3329 ≡ 3328
-    → times 3329 z2 (minus 3329 (c * minus 3329 x (times 3329 z y) % 3329) (c * plus 3329 x (times 3329 z y) % 3329)) ≡ 2 * c * y % 3329
-difference-undone c x z z2 y opposite =
-    let w : ℕ = z * y in
-    let a : ℕ = c * plus 3329 x (times 3329 z y) in
-    let b : ℕ = c * minus 3329 x (times 3329 z y) in
-    let b_is : b % 3329 ≡ c * (x + 3328 * w) % 3329 = times-mod 3329 c c (minus 3329 x (w % 3329)) (x + 3328 * w) refl (minus-is x w) in
-    let a_is : a % 3329 ≡ c * (x + w) % 3329 =
-    times-mod 3329 c c (plus 3329 x (w % 3329)) (x + w) refl
-    (mod-mod (x + w % 3329) 3329 ∙ plus-mod 3329 x x (w % 3329) w refl (mod-mod w 3329)) in
-    let alone : 1 * (2 * c * y) ≡ 2 * c * y = omega arith in
-    let difference : minus 3329 (b % 3329) (a % 3329) % 3329 ≡ c * (2 * (3328 * w)) % 3329 =
-    minus-is (b % 3329) a
-    ∙ plus-mod 3329 (b % 3329) (c * (x + 3328 * w)) (3328 * a) (3328 * (c * (x + w))) (mod-mod b 3329 ∙ b_is)
-    (times-mod 3329 3328 3328 a (c * (x + w)) refl a_is)
-    ∙ ap (λ n. n % 3329) (collected c x w)
-    ∙ add-mul-mod_self_left (c * (2 * (3328 * w))) 3329 (c * x) in
-    times-mod 3329 z2 z2 (minus 3329 (b % 3329) (a % 3329)) (c * (2 * (3328 * w))) refl difference
-    ∙ ap (λ n. n % 3329) (regrouped z2 c z y)
-    ∙ times-mod 3329 (z2 * z * 3328) 1 (2 * c * y) (2 * c * y) (times-mod 3329 (z2 * z) 3328 3328 3328 opposite refl) refl
-    ∙ ap (λ n. n % 3329) alone
+  -- zeta'·(b - a), where zeta'·zeta is -1
+  difference-undone : (c x z z2 y : ℕ) → z2 * z % q ≡ (q - 1)
+      → times q z2 (minus q (c * minus q x (times q z y) % q) (c * plus q x (times q z y) % q)) ≡ 2 * c * y % q
+  difference-undone c x z z2 y opposite =
+      let w : ℕ = z * y in
+      let a : ℕ = c * plus q x (times q z y) in
+      let b : ℕ = c * minus q x (times q z y) in
+      let b_is : b % q ≡ c * (x + (q - 1) * w) % q = times-mod q c c (minus q x (w % q)) (x + (q - 1) * w) refl (minus-is x w) in
+      let a_is : a % q ≡ c * (x + w) % q =
+      times-mod q c c (plus q x (w % q)) (x + w) refl
+      (mod-mod (x + w % q) q ∙ plus-mod q x x (w % q) w refl (mod-mod w q)) in
+      let alone : 1 * (2 * c * y) ≡ 2 * c * y = omega arith in
+      let whole : (q - 1) + 1 ≡ q = omega arith in
+      let below : (q - 1) < q = omega arith in
+      let difference : minus q (b % q) (a % q) % q ≡ c * (2 * ((q - 1) * w)) % q =
+      minus-is (b % q) a
+      ∙ plus-mod q (b % q) (c * (x + (q - 1) * w)) ((q - 1) * a) ((q - 1) * (c * (x + w))) (mod-mod b q ∙ b_is)
+      (times-mod q (q - 1) (q - 1) a (c * (x + w)) refl a_is)
+      ∙ ap (λ n. n % q) (collected (q - 1) c x w ∙ ap (λ n. c * (2 * ((q - 1) * w)) + n * (c * x)) whole)
+      ∙ add-mul-mod_self_left (c * (2 * ((q - 1) * w))) q (c * x) in
+      times-mod q z2 z2 (minus q (b % q) (a % q)) (c * (2 * ((q - 1) * w))) refl difference
+      ∙ ap (λ n. n % q) (regrouped (q - 1) z2 c z y)
+      ∙ times-mod q (z2 * z * (q - 1)) 1 (2 * c * y) (2 * c * y) (times-mod q (z2 * z) (q - 1) (q - 1) (q - 1) (opposite ∙ sym (mod-eq_of_lt below)) refl ∙ minus_one-square q positive_q) refl
+      ∙ ap (λ n. n % q) alone
 
 -- ---- a layer
 
 -- w is c·u
-pub record IsMultiple (c : ℕ) (u w : List ℕ) : Type 0 where
+pub record IsMultiple (q c : ℕ) (u w : List ℕ) : Type 0 where
   pub size : length w ≡ 256
-  pub at : (n : ℕ) → n < 256 → get_or w n 0 ≡ c * get_or u n 0 % 3329
+  pub at : (n : ℕ) → n < 256 → get_or w n 0 ≡ c * get_or u n 0 % q
 
-abbrev pub Opposites : ℕ → ℕ → Type 0
-Opposites m t = (g : ℕ) → g < t → zeta (2 * (128 / m) - 1 - g) * zeta (128 / m + g) % 3329 ≡ 3328
+pub itself : (q : ℕ) (f : List ℕ) → length f ≡ 256 → ((n : ℕ) → n < 256 → get_or f n 0 < q) → IsMultiple q 1 f f
+itself q f long below = record {
+  size = long;
+  at = λ n inside.
+      let alone : 1 * get_or f n 0 ≡ get_or f n 0 = omega arith in
+      sym (ap (λ y. y % q) alone ∙ mod-eq_of_lt (below n inside));
+}
 
-pub layer-undone : (m t c : ℕ) (u w : List ℕ) → 1 ≤ m → m * t ≡ 128 → Opposites m t → length u ≡ 256 → IsMultiple c (layer m u) w
-    → IsMultiple (2 * c) u (inverse_layer m w)
-layer-undone m t c u w positive whole opposite long is =
-    let made : LayerStage m u 128 (layer m u) = layer-stage m t u positive whole long in
-    let undone : BackStage m w 128 (inverse_layer m w) = back-stage m t w positive whole is.size in
-    let x : ℕ → ℕ = λ k. get_or u (first_place m k) 0 in
-    let y : ℕ → ℕ = λ k. get_or u (first_place m k + m) 0 in
+-- the zetas of a layer back are those of the layer, inverted and negated
+abbrev pub Opposites : ℕ → (ℕ → ℕ) → ℕ → ℕ → Type 0
+Opposites q zeta m t = (g : ℕ) → g < t → zeta (2 * (128 / m) - 1 - g) * zeta (128 / m + g) % q ≡ q - 1
+
+-- by a table
+pub opposites-from : (q : ℕ) (zeta : ℕ → ℕ) (m t : ℕ)
+    → map (λ g. zeta (2 * (128 / m) - 1 - g) * zeta (128 / m + g) % q) (range_with_len 0 t) ≡ map (λ g. q - 1) (range_with_len 0 t)
+    → Opposites q zeta m t
+opposites-from q zeta m t same g inside =
+    from_table (λ g. zeta (2 * (128 / m) - 1 - g) * zeta (128 / m + g) % q) (λ g. q - 1) 0 t g same (omega arith) (omega arith)
+
+pub layer-undone : (q : ℕ) (zeta : ℕ → ℕ) → 1 ≤ q → (m t c : ℕ) (u v w x : List ℕ) → 1 ≤ m → m * t ≡ 128 → Opposites q zeta m t
+    → LayerStage q zeta m u 128 v → IsMultiple q c v w → BackStage q zeta m w 128 x → IsMultiple q (2 * c) u x
+layer-undone q zeta positive_q m t c u v w x positive whole opposite made is undone =
+    let a : ℕ → ℕ = λ k. get_or u (first_place m k) 0 in
+    let b : ℕ → ℕ = λ k. get_or u (first_place m k + m) 0 in
     let z : ℕ → ℕ = λ k. zeta (128 / m + k / m) in
-    let first : (k : ℕ) → k < 128 → get_or w (first_place m k) 0 ≡ c * plus 3329 (x k) (times 3329 (z k) (y k)) % 3329 = λ k inside.
-    is.at (first_place m k) ((are-apart m t positive whole).first_inside k inside) ∙ ap (λ n. c * n % 3329) (made.first_done k inside inside) in
-    let second : (k : ℕ) → k < 128 → get_or w (first_place m k + m) 0 ≡ c * minus 3329 (x k) (times 3329 (z k) (y k)) % 3329 = λ k inside.
-    is.at (first_place m k + m) ((are-apart m t positive whole).second_inside k inside) ∙ ap (λ n. c * n % 3329) (made.second_done k inside inside) in
+    let first : (k : ℕ) → k < 128 → get_or w (first_place m k) 0 ≡ c * plus q (a k) (times q (z k) (b k)) % q = λ k inside.
+    is.at (first_place m k) ((are-apart m t positive whole).first_inside k inside) ∙ ap (λ n. c * n % q) (made.first_done k inside inside) in
+    let second : (k : ℕ) → k < 128 → get_or w (first_place m k + m) 0 ≡ c * minus q (a k) (times q (z k) (b k)) % q = λ k inside.
+    is.at (first_place m k + m) ((are-apart m t positive whole).second_inside k inside) ∙ ap (λ n. c * n % q) (made.second_done k inside inside) in
     record {
       size = undone.size;
-      at = all-places m t positive whole (λ n. get_or (inverse_layer m w) n 0 ≡ 2 * c * get_or u n 0 % 3329)
+      at = all-places m t positive whole (λ n. get_or x n 0 ≡ 2 * c * get_or u n 0 % q)
           (λ k inside.
-          undone.first_done k inside inside ∙ ap₂ (plus 3329) (first k inside) (second k inside) ∙ sum-undone c (x k) (z k) (y k))
+          undone.first_done k inside inside ∙ ap₂ (plus q) (first k inside) (second k inside) ∙ sum-undone q positive_q c (a k) (z k) (b k))
           (λ k inside.
           undone.second_done k inside inside
-          ∙ ap₂ (λ a b. times 3329 (zeta (2 * (128 / m) - 1 - k / m)) (minus 3329 b a)) (first k inside) (second k inside)
-          ∙ difference-undone c (x k) (z k) (zeta (2 * (128 / m) - 1 - k / m)) (y k) (opposite (k / m) (group-below m t k positive whole inside)));
+          ∙ ap₂ (λ a b. times q (zeta (2 * (128 / m) - 1 - k / m)) (minus q b a)) (first k inside) (second k inside)
+          ∙ difference-undone q positive_q c (a k) (z k) (zeta (2 * (128 / m) - 1 - k / m)) (b k) (opposite (k / m) (group-below m t k positive whole inside)));
     }

@@ -1,5 +1,5 @@
 -- Changes of two numbers each, at places that differ: butterflies, and what undoes them.
-use Rattle.std.proofs.Common.{◌≡◌, ◌≢◌, ℕ, suc, ◌<◌, ◌≤◌, List, length, get_or, refl, sym, ap, ap₂, ◌∙◌, inl, inr, arith}
+use Rattle.std.proofs.Common.{◌≡◌, ◌≢◌, ℕ, zero, suc, ◌<◌, ◌≤◌, List, length, get_or, refl, subst, sym, ap, ap₂, ◌∙◌, inl, inr, arith}
 use Rattle.std.proofs.Math.ListN.{set}
 use Rattle.std.proofs.lemmas.Bool.{cases_eq}
 use Rattle.std.proofs.lemmas.Grind.{get_or-set_at}
@@ -106,3 +106,11 @@ next_stage p r i j z f n v are inside so_far =
           other-place p r (i n) (j n) (j k) (z n) v (λ e. are.both n k inside k_inside (sym e)) (λ e. past k n left (are.seconds k n k_inside inside e))
           ∙ so_far.second_left k k_inside (omega (arith, left));
     }
+
+-- lists of which each is made of the one before by a change
+pub all_stages : (p r : Step) (i j z : ℕ → ℕ) (b : ℕ → List ℕ) → AreApart i j → length (b 0) ≡ 256
+    → ((n : ℕ) → b (suc n) ≡ changed p r (i n) (j n) (z n) (b n)) → (n : ℕ) → n ≤ 128 → Stage p r i j z (b 0) n (b n)
+all_stages p r i j z b are long next zero low = no_stage p r i j z (b 0) long
+all_stages p r i j z b are long next (suc n) low =
+    subst (Stage p r i j z (b 0) (suc n)) (sym (next n))
+    (next_stage p r i j z (b 0) n (b n) are (omega arith) (all_stages p r i j z b are long next n (omega arith)))

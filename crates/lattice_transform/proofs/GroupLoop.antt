@@ -13,11 +13,11 @@ group-within half group whole inside =
     omega arith
 
 -- the groups of butterflies
-group-of : (half group j : ℕ) → j < half → (half * group + j) / half ≡ group
+pub group-of : (half group j : ℕ) → j < half → (half * group + j) / half ≡ group
 group-of half group j inside = ap (λ (n : ℕ). (n + j) / half) (mul_comm half group) ∙ div-mul-add group half j inside
 
 -- the places of butterflies
-place-of : (half group j : ℕ) → j < half → first_place half (half * group + j) ≡ 2 * (half * group) + j
+pub place-of : (half group j : ℕ) → j < half → first_place half (half * group + j) ≡ 2 * (half * group) + j
 place-of half group j inside =
     let turned : half * ((half * group + j) / half) ≡ half * group = ap (λ (g : ℕ). half * g) (group-of half group j inside) in
     omega arith

@@ -1,11 +1,11 @@
 -- The places of the butterflies of a layer.
-use Rattle.std.proofs.Common.{◌≡◌, ℕ, zero, suc, ◌+◌, ◌*◌, ◌/◌, ◌%◌, ◌<◌, ◌≤◌, List, length, sym, ap, ap₂, ◌∙◌, inl, inr, arith, mul-le-mul_left}
+use Rattle.std.proofs.Common.{◌≡◌, ℕ, suc, ◌+◌, ◌-◌, ◌*◌, ◌/◌, ◌%◌, ◌<◌, ◌≤◌, List, sym, ap, ap₂, ◌∙◌, inl, inr, arith, mul-le-mul_left}
 use Rattle.std.proofs.Math.Nat.{div-add-mod, mod-lt}
 use Rattle.std.proofs.lemmas.Bool.{cases_lt}
 use Rattle.std.proofs.lemmas.Nat.{div-mul-add, mod-mul-add}
 use Rattle.module_lattice.specs.Ring.{minus, plus, times}
-use Rattle.lattice_transform.specs.Layers.{butterflies, first_place, layer, zeta}
-use Rattle.lattice_transform.proofs.Butterflies.{AreApart, Stage, Step, next_stage, no_stage}
+use Rattle.lattice_transform.specs.Layers.{first_place}
+use Rattle.lattice_transform.proofs.Butterflies.{AreApart, Stage, Step}
 
 -- ---- places as blocks of m numbers
 
@@ -68,23 +68,23 @@ are-apart m t positive whole = record {
       absurd (omega (arith, block));
 }
 
--- ---- the butterflies of a layer
+-- ---- the butterflies of a layer modulo q, and of the layer back, by any zetas
 
-abbrev pub sum_part : Step
-sum_part z a b = plus 3329 a (times 3329 z b)
+abbrev pub sum_part : ℕ → Step
+sum_part q z a b = plus q a (times q z b)
 
-abbrev pub difference_part : Step
-difference_part z a b = minus 3329 a (times 3329 z b)
+abbrev pub difference_part : ℕ → Step
+difference_part q z a b = minus q a (times q z b)
 
-abbrev pub LayerStage : ℕ → List ℕ → ℕ → List ℕ → Type 0
-LayerStage m f n v = Stage sum_part difference_part (first_place m) (λ k. first_place m k + m) (λ k. zeta (128 / m + k / m)) f n v
+abbrev pub LayerStage : ℕ → (ℕ → ℕ) → ℕ → List ℕ → ℕ → List ℕ → Type 0
+LayerStage q zeta m f n v = Stage (sum_part q) (difference_part q) (first_place m) (λ k. first_place m k + m) (λ k. zeta (128 / m + k / m)) f n v
 
-stages : (m t n : ℕ) (f : List ℕ) → 1 ≤ m → m * t ≡ 128 → length f ≡ 256 → n ≤ 128 → LayerStage m f n (butterflies m n f)
-unfolding butterflies
-stages m t zero f positive whole long low = no_stage sum_part difference_part (first_place m) (λ k. first_place m k + m) (λ k. zeta (128 / m + k / m)) f long
-stages m t (suc n) f positive whole long low =
-    next_stage sum_part difference_part (first_place m) (λ k. first_place m k + m) (λ k. zeta (128 / m + k / m)) f n (butterflies m n f)
-    (are-apart m t positive whole) (omega arith) (stages m t n f positive whole long (omega arith))
+abbrev pub both_sum : ℕ → Step
+both_sum q z a b = plus q a b
 
-pub layer-stage : (m t : ℕ) (f : List ℕ) → 1 ≤ m → m * t ≡ 128 → length f ≡ 256 → LayerStage m f 128 (layer m f)
-layer-stage m t f positive whole long = stages m t 128 f positive whole long (omega arith)
+abbrev pub turned_difference : ℕ → Step
+turned_difference q z a b = times q z (minus q b a)
+
+abbrev pub BackStage : ℕ → (ℕ → ℕ) → ℕ → List ℕ → ℕ → List ℕ → Type 0
+BackStage q zeta m f n v =
+    Stage (both_sum q) (turned_difference q) (first_place m) (λ k. first_place m k + m) (λ k. zeta (2 * (128 / m) - 1 - k / m)) f n v

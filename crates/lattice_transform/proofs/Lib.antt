@@ -1,5 +1,7 @@
 -- sums over ranges
 pub mod Sums
+-- two rules whose lists are the same
+pub mod Tables
 -- the computed facts of the powers of 17
 pub mod Roots
 -- tables of weights that undo each other
@@ -18,7 +20,9 @@ pub mod Polynomials
 pub mod SumLaw
 -- the weights of the powers of X in one pair
 pub mod Weights
--- sums of the coefficients of a product
+-- negation modulo q
+pub mod Negation
+-- sums of the coefficients of a product, modulo any q
 pub mod Products
 -- the transform of a product
 pub mod ProductLaw
@@ -26,7 +30,9 @@ pub mod ProductLaw
 pub mod Butterflies
 -- the places of a layer
 pub mod Groups
--- a layer on remainders
+-- the layers of this transform as stages
+pub mod Stages
+-- a layer on remainders, for any q and zetas
 pub mod Remainders
 -- seven layers
 pub mod Seven
@@ -36,7 +42,7 @@ pub mod ZetaTable
 pub mod LayerLoop
 -- the loops over the groups of a layer and over the butterflies of a group
 pub mod GroupLoop
--- a layer, undone up to a factor
+-- a layer, undone up to a factor, for any q and zetas
 pub mod Back
 -- seven layers back
 pub mod SevenBack

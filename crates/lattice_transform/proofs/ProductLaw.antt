@@ -95,7 +95,7 @@ product-even f g i inside =
     let r : ℕ = gamma i in
     sym (number-even (product 3329 f g) i)
     ∙ ap (λ x. x % 3329) (coefficients f g (even r))
-    ∙ product-weighed f g (even r) (turns i (even r) inside (even-256 r))
+    ∙ product-weighed 3329 (omega arith) f g (even r) (turns i (even r) inside (even-256 r))
     ∙ ap (λ x. x % 3329)
     (double f g (even r) (even r) (λ a. r * odd r a) (odd r) (even r) (even-add r)
     ∙ ap (λ x. weighed f (even r) * weighed g (even r) + x)
@@ -107,7 +107,7 @@ product-odd f g i inside =
     let r : ℕ = gamma i in
     sym (number-odd (product 3329 f g) i)
     ∙ ap (λ x. x % 3329) (coefficients f g (odd r))
-    ∙ product-weighed f g (odd r) (turns i (odd r) inside (odd-256 r))
+    ∙ product-weighed 3329 (omega arith) f g (odd r) (turns i (odd r) inside (odd-256 r))
     ∙ ap (λ x. x % 3329) (double f g (even r) (odd r) (odd r) (even r) (odd r) (odd-add r))
 
 -- ---- pair by pair

@@ -1,32 +1,23 @@
--- Sums of the coefficients of a product, each with a weight.
+-- Sums of the coefficients of a product modulo q, each with a weight.
 use Rattle.std.proofs.Common.{◌≡◌, ℕ, ◌+◌, ◌-◌, ◌*◌, ◌%◌, ◌<◌, ◌≤◌, List, get_or, refl, sym, ap, ap₂, ◌∙◌, arith}
 use Rattle.std.specs.Prelude.{nat_lt, if◌then◌else◌}
-use Rattle.std.proofs.Math.Nat.{add-mul, add-mul-mod_self_left, mod-mod, mul_assoc, mul_comm}
+use Rattle.std.proofs.Math.Nat.{add-mul, mod-mod, mul_assoc, mul_comm}
 use Rattle.std.proofs.lemmas.Bool.Decides.{nat_tests}
-use Rattle.std.proofs.lemmas.Nat.{mul-mod_second}
 use Rattle.module_lattice.specs.Ring.{product_coefficient}
+use Rattle.lattice_transform.proofs.Negation.{negative}
 use Rattle.lattice_transform.proofs.Sums.{over, over-mod, over-same, over-shift, over-split, over-swap, over-times, plus-mod, times-mod}
 
 pub over-times_last : (a n c : ℕ) (f : ℕ → ℕ) → over a n (λ k. f k * c) ≡ over a n f * c
 over-times_last a n c f =
     over-same a n (λ k. f k * c) (λ k. c * f k) (λ k low high. mul_comm (f k) c) ∙ over-times a n c f ∙ mul_comm c (over a n f)
 
--- -x is (q - 1)·x
-pub negative : (x : ℕ) → (3329 - x % 3329) % 3329 ≡ 3328 * x % 3329
-negative x =
-    let r : ℕ = x % 3329 in
-    let small : r < 3329 = omega arith in
-    let both : 3329 - r + 3329 * r ≡ 3328 * r + 3329 * 1 = omega arith in
-    sym (add-mul-mod_self_left (3329 - r) 3329 r) ∙ ap (λ y. y % 3329) both ∙ add-mul-mod_self_left (3328 * r) 3329 1
-    ∙ mul-mod_second 3328 x 3329
-
 swapped : (a b : ℕ) → a + b ≡ b + a
 swapped a b = omega arith
 
-spread : (a b w : ℕ) → (a + 3328 * b) * w ≡ a * w + b * (3328 * w)
-spread a b w = add-mul a (3328 * b) w ∙ ap (λ x. a * w + x) (ap (λ x. x * w) (mul_comm 3328 b) ∙ mul_assoc b 3328 w)
+spread : (a b c w : ℕ) → (a + c * b) * w ≡ a * w + b * (c * w)
+spread a b c w = add-mul a (c * b) w ∙ ap (λ x. a * w + x) (ap (λ x. x * w) (mul_comm c b) ∙ mul_assoc b c w)
 
-module _ (f g : List ℕ) (w : ℕ → ℕ) where
+module _ (q : ℕ) (positive : 1 ≤ q) (f g : List ℕ) (w : ℕ → ℕ) where
   below : ℕ → ℕ
   below k = over 0 (k + 1) (λ i. get_or f i 0 * get_or g (k - i) 0)
 
@@ -45,11 +36,11 @@ module _ (f g : List ℕ) (w : ℕ → ℕ) where
   unfolding share
   share-below k i le = grind (arith, nat_tests)
 
-  coefficient-mod : (k : ℕ) → product_coefficient 3329 f g k % 3329 ≡ (below k + 3328 * wrapped k) % 3329
+  coefficient-mod : (k : ℕ) → product_coefficient q f g k % q ≡ (below k + (q - 1) * wrapped k) % q
   unfolding below wrapped
   coefficient-mod k =
-      mod-mod (below k % 3329 + (3329 - wrapped k % 3329)) 3329
-      ∙ plus-mod 3329 (below k % 3329) (below k) (3329 - wrapped k % 3329) (3328 * wrapped k) (mod-mod (below k) 3329) (negative (wrapped k))
+      mod-mod (below k % q + (q - wrapped k % q)) q
+      ∙ plus-mod q (below k % q) (below k) (q - wrapped k % q) ((q - 1) * wrapped k) (mod-mod (below k) q) (negative q (wrapped k) positive)
 
   shares : (k : ℕ) → k < 256 → below k * w k + wrapped k * w (k + 256) ≡ over 0 256 (λ i. get_or f i 0 * share k i)
   unfolding below wrapped
@@ -99,19 +90,19 @@ module _ (f g : List ℕ) (w : ℕ → ℕ) where
       first ∙ ap₂ (λ x y. x + y) low_part high_part ∙ swapped (over (256 - i) i target) (over 0 (256 - i) target) ∙ sym second
 
   -- the coefficients of f·g, where the weight at k + 256 is minus that at k
-  pub product-weighed : ((k : ℕ) → k < 256 → w (k + 256) % 3329 ≡ 3328 * w k % 3329)
-      → over 0 256 (λ k. product_coefficient 3329 f g k * w k) % 3329
-      ≡ over 0 256 (λ i. get_or f i 0 * over 0 256 (λ j. get_or g j 0 * w (i + j))) % 3329
+  pub product-weighed : ((k : ℕ) → k < 256 → w (k + 256) % q ≡ (q - 1) * w k % q)
+      → over 0 256 (λ k. product_coefficient q f g k * w k) % q
+      ≡ over 0 256 (λ i. get_or f i 0 * over 0 256 (λ j. get_or g j 0 * w (i + j))) % q
   product-weighed turns =
-      over-mod 3329 0 256 (λ k. product_coefficient 3329 f g k * w k) (λ k. over 0 256 (λ i. get_or f i 0 * share k i))
+      over-mod q 0 256 (λ k. product_coefficient q f g k * w k) (λ k. over 0 256 (λ i. get_or f i 0 * share k i))
       (λ k low high.
       let inside : k < 256 = omega arith in
-      times-mod 3329 (product_coefficient 3329 f g k) (below k + 3328 * wrapped k) (w k) (w k) (coefficient-mod k) refl
-      ∙ ap (λ x. x % 3329) (spread (below k) (wrapped k) (w k))
-      ∙ plus-mod 3329 (below k * w k) (below k * w k) (wrapped k * (3328 * w k)) (wrapped k * w (k + 256)) refl
-      (times-mod 3329 (wrapped k) (wrapped k) (3328 * w k) (w (k + 256)) refl (sym (turns k inside)))
-      ∙ ap (λ x. x % 3329) (shares k inside))
-      ∙ ap (λ x. x % 3329)
+      times-mod q (product_coefficient q f g k) (below k + (q - 1) * wrapped k) (w k) (w k) (coefficient-mod k) refl
+      ∙ ap (λ x. x % q) (spread (below k) (wrapped k) (q - 1) (w k))
+      ∙ plus-mod q (below k * w k) (below k * w k) (wrapped k * ((q - 1) * w k)) (wrapped k * w (k + 256)) refl
+      (times-mod q (wrapped k) (wrapped k) ((q - 1) * w k) (w (k + 256)) refl (sym (turns k inside)))
+      ∙ ap (λ x. x % q) (shares k inside))
+      ∙ ap (λ x. x % q)
       (over-swap 0 256 0 256 (λ k i. get_or f i 0 * share k i)
       ∙ over-same 0 256 (λ i. over 0 256 (λ k. get_or f i 0 * share k i)) (λ i. get_or f i 0 * over 0 256 (λ j. get_or g j 0 * w (i + j)))
       (λ i low high. over-times 0 256 (get_or f i 0) (λ k. share k i) ∙ ap (λ x. get_or f i 0 * x) (given i (omega arith))))

@@ -1,18 +1,11 @@
 -- The powers of the roots g(i), by computation.
-use Rattle.std.proofs.Common.{◌≡◌, ℕ, ◌+◌, ◌-◌, ◌*◌, ◌%◌, ◌^◌, ◌<◌, ◌≤◌, List, map, get_or, refl, sym, ap, ◌∙◌, arith}
+use Rattle.std.proofs.Common.{◌≡◌, ℕ, ◌*◌, ◌%◌, ◌^◌, ◌<◌, ◌≤◌, map, refl, sym, ap, ◌∙◌, arith}
 use Rattle.std.specs.Prelude.{if◌then◌else◌, ◌==◌, position, unwrap_or}
 use Rattle.std.specs.List.{range_with_len}
 use Rattle.std.proofs.lemmas.Bool.{eq-eqb}
-use Rattle.std.proofs.lemmas.List.FromFn.{get_or-map-range_with_len}
 use Rattle.module_lattice.specs.Pairs.{gamma}
 use Rattle.lattice_transform.proofs.Sums.{over}
-
--- a rule that is a list, place by place
-pub from_table : (f g : ℕ → ℕ) (a n k : ℕ) → map f (range_with_len a n) ≡ map g (range_with_len a n) → a ≤ k → k < a + n → f k ≡ g k
-from_table f g a n k same low high =
-    sym (get_or-map-range_with_len f a n (k - a) k 0 (omega arith) (omega arith))
-    ∙ ap (λ (xs : List ℕ). get_or xs (k - a) 0) same
-    ∙ get_or-map-range_with_len g a n (k - a) k 0 (omega arith) (omega arith)
+use Rattle.lattice_transform.proofs.Tables.{from_table}
 
 -- the sum of the e-th powers of all g(i)
 abbrev pub power_sum : ℕ → ℕ

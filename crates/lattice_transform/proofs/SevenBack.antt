@@ -1,26 +1,20 @@
 -- Seven layers back, with the factor 3303, are the inverse of the transform.
-use Rattle.std.proofs.Common.{◌≡◌, ℕ, ◌+◌, ◌-◌, ◌*◌, ◌/◌, ◌%◌, ◌<◌, List, length, get_or, map, refl, subst, sym, ap, ◌∙◌, arith}
+use Rattle.std.proofs.Common.{◌≡◌, ℕ, ◌+◌, ◌-◌, ◌*◌, ◌/◌, ◌%◌, ◌<◌, ◌≤◌, List, length, get_or, map, refl, subst, sym, ap, ◌∙◌, arith}
 use Rattle.std.specs.List.{range_with_len}
-use Rattle.std.proofs.Math.Nat.{mod-eq_of_lt, mod-lt, mul_assoc}
-use Rattle.std.proofs.lemmas.List.{ext_get_or, get_or-map, get_or_default, length-map}
+use Rattle.std.proofs.Math.Nat.{mod-eq_of_lt, mul_assoc}
+use Rattle.std.proofs.lemmas.List.{ext_get_or, get_or-map, length-map}
 use Rattle.std.proofs.lemmas.Nat.{mul-mod_second}
 use Rattle.module_lattice.specs.Ring.{IsPolynomial, multiple, times}
 use Rattle.lattice_transform.specs.Layers.{inverse_layer, inverse_layers, layer, layers, zeta}
-use Rattle.lattice_transform.specs.Transform.{inverse_coefficient, inverse_transform}
-use Rattle.lattice_transform.proofs.Back.{IsMultiple, Opposites, layer-undone}
-use Rattle.lattice_transform.proofs.Inverse.{length-inverse, transform-inverse}
+use Rattle.lattice_transform.specs.Transform.{inverse_transform}
+use Rattle.lattice_transform.proofs.Back.{IsMultiple, Opposites, itself, layer-undone, opposites-from}
+use Rattle.lattice_transform.proofs.Inverse.{transform-inverse}
 use Rattle.lattice_transform.proofs.Polynomials.{IsPolynomial-inverse}
-use Rattle.lattice_transform.proofs.Remainders.{length-layer}
-use Rattle.lattice_transform.proofs.Roots.{from_table}
 use Rattle.lattice_transform.proofs.Seven.{layers-transform}
+use Rattle.lattice_transform.proofs.Stages.{back-stage, layer-stage, length-layer}
 use Rattle.lattice_transform.proofs.Sums.{times-mod}
 
 -- ---- the zetas of the way back, by computation
-
-opposites-from : (m t : ℕ) → map (λ g. zeta (2 * (128 / m) - 1 - g) * zeta (128 / m + g) % 3329) (range_with_len 0 t) ≡ map (λ g. 3328) (range_with_len 0 t)
-    → Opposites m t
-opposites-from m t same g inside =
-    from_table (λ g. zeta (2 * (128 / m) - 1 - g) * zeta (128 / m + g) % 3329) (λ g. 3328) 0 t g same (omega arith) (omega arith)
 
 opposites_128 : map (λ g. zeta (2 * (128 / 128) - 1 - g) * zeta (128 / 128 + g) % 3329) (range_with_len 0 1) ≡ map (λ g. 3328) (range_with_len 0 1)
 unfolding zeta
@@ -58,16 +52,14 @@ factored x small =
     mul-mod_second 3303 (128 * x) 3329 ∙ ap (λ y. y % 3329) (sym (mul_assoc 3303 128 x))
     ∙ times-mod 3329 (3303 * 128) 1 x x refl refl ∙ ap (λ y. y % 3329) alone ∙ mod-eq_of_lt small
 
-itself : (f : List ℕ) → length f ≡ 256 → ((n : ℕ) → n < 256 → get_or f n 0 < 3329) → IsMultiple 1 f f
-itself f long below = record {
-  size = long;
-  at = λ n inside.
-      let alone : 1 * get_or f n 0 ≡ get_or f n 0 = omega arith in
-      sym (ap (λ y. y % 3329) alone ∙ mod-eq_of_lt (below n inside));
-}
+undone : (m t c : ℕ) (u w : List ℕ) → 1 ≤ m → m * t ≡ 128 → Opposites 3329 zeta m t → length u ≡ 256 → IsMultiple 3329 c (layer m u) w
+    → IsMultiple 3329 (2 * c) u (inverse_layer m w)
+undone m t c u w positive whole opposite long is =
+    layer-undone 3329 zeta (omega arith) m t c u (layer m u) w (inverse_layer m w) positive whole opposite (layer-stage m t u positive whole long) is
+    (back-stage m t w positive whole is.size)
 
 seven : (u : List ℕ) → length u ≡ 256 → ((n : ℕ) → n < 256 → get_or (layers u) n 0 < 3329)
-    → IsMultiple 128 u (inverse_layer 128 (inverse_layer 64 (inverse_layer 32 (inverse_layer 16 (inverse_layer 8 (inverse_layer 4 (inverse_layer 2 (layers u))))))))
+    → IsMultiple 3329 128 u (inverse_layer 128 (inverse_layer 64 (inverse_layer 32 (inverse_layer 16 (inverse_layer 8 (inverse_layer 4 (inverse_layer 2 (layers u))))))))
 seven u long below =
     let l1 : length (layer 128 u) ≡ 256 = length-layer 128 1 (u) (omega arith) refl long in
     let l2 : length (layer 64 (layer 128 u)) ≡ 256 = length-layer 64 2 (layer 128 u) (omega arith) refl l1 in
@@ -75,14 +67,14 @@ seven u long below =
     let l4 : length (layer 16 (layer 32 (layer 64 (layer 128 u)))) ≡ 256 = length-layer 16 8 (layer 32 (layer 64 (layer 128 u))) (omega arith) refl l3 in
     let l5 : length (layer 8 (layer 16 (layer 32 (layer 64 (layer 128 u))))) ≡ 256 = length-layer 8 16 (layer 16 (layer 32 (layer 64 (layer 128 u)))) (omega arith) refl l4 in
     let l6 : length (layer 4 (layer 8 (layer 16 (layer 32 (layer 64 (layer 128 u)))))) ≡ 256 = length-layer 4 32 (layer 8 (layer 16 (layer 32 (layer 64 (layer 128 u))))) (omega arith) refl l5 in
-    let w0 : IsMultiple 1 (layers u) (layers u) = itself (layers u) (length-layer 2 64 (layer 4 (layer 8 (layer 16 (layer 32 (layer 64 (layer 128 u)))))) (omega arith) refl l6) below in
-    let w1 : IsMultiple 2 (layer 4 (layer 8 (layer 16 (layer 32 (layer 64 (layer 128 u)))))) (inverse_layer 2 (layers u)) = layer-undone 2 64 1 (layer 4 (layer 8 (layer 16 (layer 32 (layer 64 (layer 128 u)))))) (layers u) (omega arith) refl (opposites-from 2 64 opposites_2) l6 w0 in
-    let w2 : IsMultiple 4 (layer 8 (layer 16 (layer 32 (layer 64 (layer 128 u))))) (inverse_layer 4 (inverse_layer 2 (layers u))) = layer-undone 4 32 2 (layer 8 (layer 16 (layer 32 (layer 64 (layer 128 u))))) (inverse_layer 2 (layers u)) (omega arith) refl (opposites-from 4 32 opposites_4) l5 w1 in
-    let w3 : IsMultiple 8 (layer 16 (layer 32 (layer 64 (layer 128 u)))) (inverse_layer 8 (inverse_layer 4 (inverse_layer 2 (layers u)))) = layer-undone 8 16 4 (layer 16 (layer 32 (layer 64 (layer 128 u)))) (inverse_layer 4 (inverse_layer 2 (layers u))) (omega arith) refl (opposites-from 8 16 opposites_8) l4 w2 in
-    let w4 : IsMultiple 16 (layer 32 (layer 64 (layer 128 u))) (inverse_layer 16 (inverse_layer 8 (inverse_layer 4 (inverse_layer 2 (layers u))))) = layer-undone 16 8 8 (layer 32 (layer 64 (layer 128 u))) (inverse_layer 8 (inverse_layer 4 (inverse_layer 2 (layers u)))) (omega arith) refl (opposites-from 16 8 opposites_16) l3 w3 in
-    let w5 : IsMultiple 32 (layer 64 (layer 128 u)) (inverse_layer 32 (inverse_layer 16 (inverse_layer 8 (inverse_layer 4 (inverse_layer 2 (layers u)))))) = layer-undone 32 4 16 (layer 64 (layer 128 u)) (inverse_layer 16 (inverse_layer 8 (inverse_layer 4 (inverse_layer 2 (layers u))))) (omega arith) refl (opposites-from 32 4 opposites_32) l2 w4 in
-    let w6 : IsMultiple 64 (layer 128 u) (inverse_layer 64 (inverse_layer 32 (inverse_layer 16 (inverse_layer 8 (inverse_layer 4 (inverse_layer 2 (layers u))))))) = layer-undone 64 2 32 (layer 128 u) (inverse_layer 32 (inverse_layer 16 (inverse_layer 8 (inverse_layer 4 (inverse_layer 2 (layers u)))))) (omega arith) refl (opposites-from 64 2 opposites_64) l1 w5 in
-    layer-undone 128 1 64 (u) (inverse_layer 64 (inverse_layer 32 (inverse_layer 16 (inverse_layer 8 (inverse_layer 4 (inverse_layer 2 (layers u))))))) (omega arith) refl (opposites-from 128 1 opposites_128) long w6
+    let w0 : IsMultiple 3329 1 (layers u) (layers u) = itself 3329 (layers u) (length-layer 2 64 (layer 4 (layer 8 (layer 16 (layer 32 (layer 64 (layer 128 u)))))) (omega arith) refl l6) below in
+    let w1 : IsMultiple 3329 2 (layer 4 (layer 8 (layer 16 (layer 32 (layer 64 (layer 128 u)))))) (inverse_layer 2 (layers u)) = undone 2 64 1 (layer 4 (layer 8 (layer 16 (layer 32 (layer 64 (layer 128 u)))))) (layers u) (omega arith) refl (opposites-from 3329 zeta 2 64 opposites_2) l6 w0 in
+    let w2 : IsMultiple 3329 4 (layer 8 (layer 16 (layer 32 (layer 64 (layer 128 u))))) (inverse_layer 4 (inverse_layer 2 (layers u))) = undone 4 32 2 (layer 8 (layer 16 (layer 32 (layer 64 (layer 128 u))))) (inverse_layer 2 (layers u)) (omega arith) refl (opposites-from 3329 zeta 4 32 opposites_4) l5 w1 in
+    let w3 : IsMultiple 3329 8 (layer 16 (layer 32 (layer 64 (layer 128 u)))) (inverse_layer 8 (inverse_layer 4 (inverse_layer 2 (layers u)))) = undone 8 16 4 (layer 16 (layer 32 (layer 64 (layer 128 u)))) (inverse_layer 4 (inverse_layer 2 (layers u))) (omega arith) refl (opposites-from 3329 zeta 8 16 opposites_8) l4 w2 in
+    let w4 : IsMultiple 3329 16 (layer 32 (layer 64 (layer 128 u))) (inverse_layer 16 (inverse_layer 8 (inverse_layer 4 (inverse_layer 2 (layers u))))) = undone 16 8 8 (layer 32 (layer 64 (layer 128 u))) (inverse_layer 8 (inverse_layer 4 (inverse_layer 2 (layers u)))) (omega arith) refl (opposites-from 3329 zeta 16 8 opposites_16) l3 w3 in
+    let w5 : IsMultiple 3329 32 (layer 64 (layer 128 u)) (inverse_layer 32 (inverse_layer 16 (inverse_layer 8 (inverse_layer 4 (inverse_layer 2 (layers u)))))) = undone 32 4 16 (layer 64 (layer 128 u)) (inverse_layer 16 (inverse_layer 8 (inverse_layer 4 (inverse_layer 2 (layers u))))) (omega arith) refl (opposites-from 3329 zeta 32 4 opposites_32) l2 w4 in
+    let w6 : IsMultiple 3329 64 (layer 128 u) (inverse_layer 64 (inverse_layer 32 (inverse_layer 16 (inverse_layer 8 (inverse_layer 4 (inverse_layer 2 (layers u))))))) = undone 64 2 32 (layer 128 u) (inverse_layer 32 (inverse_layer 16 (inverse_layer 8 (inverse_layer 4 (inverse_layer 2 (layers u)))))) (omega arith) refl (opposites-from 3329 zeta 64 2 opposites_64) l1 w5 in
+    undone 128 1 64 (u) (inverse_layer 64 (inverse_layer 32 (inverse_layer 16 (inverse_layer 8 (inverse_layer 4 (inverse_layer 2 (layers u))))))) (omega arith) refl (opposites-from 3329 zeta 128 1 opposites_128) long w6
 
 pub inverse-layers : (h : List ℕ) → IsPolynomial 3329 h → inverse_layers h ≡ inverse_transform h
 inverse-layers h is =
@@ -92,7 +84,7 @@ inverse-layers h is =
     let whole : layers u ≡ h = layers-transform u polynomial ∙ transform-inverse h is in
     let below : (n : ℕ) → n < 256 → get_or (layers u) n 0 < 3329 = λ n inside.
     subst (λ x. x < 3329) (ap (λ h. get_or h n 0) (sym whole)) (is.each n 0 (omega (arith, inside, is.size))) in
-    let all : IsMultiple 128 u (back (layers u)) = seven u polynomial.size below in
+    let all : IsMultiple 3329 128 u (back (layers u)) = seven u polynomial.size below in
     let done : multiple 3329 3303 (back (layers u)) ≡ u =
     ext_get_or 0 (multiple 3329 3303 (back (layers u))) u
     (length-map (back (layers u)) (times 3329 3303) ∙ all.size ∙ sym polynomial.size)
