@@ -4,12 +4,12 @@ use Rattle.std.specs.Prelude.{◌==◌, if◌then◌else◌}
 use Rattle.std.proofs.Math.Nat.{mul_assoc, mul_left_comm}
 use Rattle.std.proofs.lemmas.Bool.{cases_eq, eq-eqb, ne_eqb}
 use Rattle.std.proofs.lemmas.Nat.{pow-add}
+use Rattle.lattice_transform.proofs.Powers.{pow-pow}
+use Rattle.lattice_transform.proofs.Sums.{over, over-mod, over-same, over-times, times-mod}
+use Rattle.lattice_transform.proofs.Undo.{unit, unit-other, unit-same}
 use Rattle.dsa_ring.specs.Transform.{bit_rev8, root}
 use Rattle.dsa_ring.proofs.Permuted.{over-permuted}
-use Rattle.dsa_ring.proofs.Powers.{pow-pow}
 use Rattle.dsa_ring.proofs.Roots.{bit_rev8-below, bit_rev8-bit_rev8, power-turns, power_sum, root-power}
-use Rattle.dsa_ring.proofs.Sums.{over, over-mod, over-same, over-times, times-mod}
-use Rattle.dsa_ring.proofs.Undo.{unit, unit-other, unit-same}
 
 -- ---- the sums of h(i)^(512 - j + k) over i
 

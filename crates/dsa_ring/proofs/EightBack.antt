@@ -1,25 +1,19 @@
 -- Eight layers back, with the factor 8347681, are the inverse of the transform.
-use Rattle.std.proofs.Common.{◌≡◌, ℕ, ◌+◌, ◌-◌, ◌*◌, ◌/◌, ◌%◌, ◌<◌, List, length, get_or, map, refl, subst, sym, ap, ◌∙◌, arith}
+use Rattle.std.proofs.Common.{◌≡◌, ℕ, ◌+◌, ◌-◌, ◌*◌, ◌/◌, ◌%◌, ◌<◌, ◌≤◌, List, length, get_or, map, refl, subst, sym, ap, ◌∙◌, arith}
 use Rattle.std.specs.List.{range_with_len}
 use Rattle.std.proofs.Math.Nat.{mod-eq_of_lt, mul_assoc}
 use Rattle.std.proofs.lemmas.List.{ext_get_or, get_or-map, length-map}
 use Rattle.std.proofs.lemmas.Nat.{mul-mod_second}
 use Rattle.module_lattice.specs.Ring.{IsPolynomial, multiple, times}
+use Rattle.lattice_transform.proofs.Back.{IsMultiple, Opposites, itself, layer-undone, opposites-from}
+use Rattle.lattice_transform.proofs.Sums.{times-mod}
 use Rattle.dsa_ring.specs.Layers.{inverse_layer, inverse_layers, layer, layers, zeta}
 use Rattle.dsa_ring.specs.Transform.{inverse_transform}
-use Rattle.dsa_ring.proofs.Back.{IsMultiple, Opposites, layer-undone}
 use Rattle.dsa_ring.proofs.Eight.{layers-transform}
 use Rattle.dsa_ring.proofs.Inverse.{IsPolynomial-inverse, transform-inverse}
-use Rattle.dsa_ring.proofs.Remainders.{length-layer}
-use Rattle.dsa_ring.proofs.Roots.{from_table}
-use Rattle.dsa_ring.proofs.Sums.{times-mod}
+use Rattle.dsa_ring.proofs.Stages.{back-stage, layer-stage, length-layer}
 
 -- ---- the zetas of the way back, by computation
-
-opposites-from : (m t : ℕ) → map (λ g. zeta (2 * (128 / m) - 1 - g) * zeta (128 / m + g) % 8380417) (range_with_len 0 t) ≡ map (λ g. 8380416) (range_with_len 0 t)
-    → Opposites m t
-opposites-from m t same g inside =
-    from_table (λ g. zeta (2 * (128 / m) - 1 - g) * zeta (128 / m + g) % 8380417) (λ g. 8380416) 0 t g same (omega arith) (omega arith)
 
 opposites_128 : map (λ g. zeta (2 * (128 / 128) - 1 - g) * zeta (128 / 128 + g) % 8380417) (range_with_len 0 1) ≡ map (λ g. 8380416) (range_with_len 0 1)
 unfolding zeta
@@ -61,16 +55,14 @@ factored x small =
     mul-mod_second 8347681 (256 * x) 8380417 ∙ ap (λ y. y % 8380417) (sym (mul_assoc 8347681 256 x))
     ∙ times-mod 8380417 (8347681 * 256) 1 x x refl refl ∙ ap (λ y. y % 8380417) alone ∙ mod-eq_of_lt small
 
-itself : (f : List ℕ) → length f ≡ 256 → ((n : ℕ) → n < 256 → get_or f n 0 < 8380417) → IsMultiple 1 f f
-itself f long below = record {
-  size = long;
-  at = λ n inside.
-      let alone : 1 * get_or f n 0 ≡ get_or f n 0 = omega arith in
-      sym (ap (λ y. y % 8380417) alone ∙ mod-eq_of_lt (below n inside));
-}
+undone : (m t c : ℕ) (u w : List ℕ) → 1 ≤ m → m * t ≡ 128 → Opposites 8380417 zeta m t → length u ≡ 256 → IsMultiple 8380417 c (layer m u) w
+    → IsMultiple 8380417 (2 * c) u (inverse_layer m w)
+undone m t c u w positive whole opposite long is =
+    layer-undone 8380417 zeta (omega arith) m t c u (layer m u) w (inverse_layer m w) positive whole opposite (layer-stage m t u positive whole long) is
+    (back-stage m t w positive whole is.size)
 
 eight : (u : List ℕ) → length u ≡ 256 → ((n : ℕ) → n < 256 → get_or (layers u) n 0 < 8380417)
-    → IsMultiple 256 u (inverse_layer 128 (inverse_layer 64 (inverse_layer 32 (inverse_layer 16 (inverse_layer 8 (inverse_layer 4 (inverse_layer 2 (inverse_layer 1 (layers u)))))))))
+    → IsMultiple 8380417 256 u (inverse_layer 128 (inverse_layer 64 (inverse_layer 32 (inverse_layer 16 (inverse_layer 8 (inverse_layer 4 (inverse_layer 2 (inverse_layer 1 (layers u)))))))))
 eight u long below =
     let l1 : length (layer 128 u) ≡ 256 = length-layer 128 1 u (omega arith) refl long in
     let l2 : length (layer 64 (layer 128 u)) ≡ 256 = length-layer 64 2 (layer 128 u) (omega arith) refl l1 in
@@ -79,22 +71,22 @@ eight u long below =
     let l5 : length (layer 8 (layer 16 (layer 32 (layer 64 (layer 128 u))))) ≡ 256 = length-layer 8 16 (layer 16 (layer 32 (layer 64 (layer 128 u)))) (omega arith) refl l4 in
     let l6 : length (layer 4 (layer 8 (layer 16 (layer 32 (layer 64 (layer 128 u)))))) ≡ 256 = length-layer 4 32 (layer 8 (layer 16 (layer 32 (layer 64 (layer 128 u))))) (omega arith) refl l5 in
     let l7 : length (layer 2 (layer 4 (layer 8 (layer 16 (layer 32 (layer 64 (layer 128 u))))))) ≡ 256 = length-layer 2 64 (layer 4 (layer 8 (layer 16 (layer 32 (layer 64 (layer 128 u)))))) (omega arith) refl l6 in
-    let w0 : IsMultiple 1 (layers u) (layers u) = itself (layers u) (length-layer 1 128 (layer 2 (layer 4 (layer 8 (layer 16 (layer 32 (layer 64 (layer 128 u))))))) (omega arith) refl l7) below in
-    let w1 : IsMultiple 2 (layer 2 (layer 4 (layer 8 (layer 16 (layer 32 (layer 64 (layer 128 u))))))) (inverse_layer 1 (layers u)) =
-    layer-undone 1 128 1 (layer 2 (layer 4 (layer 8 (layer 16 (layer 32 (layer 64 (layer 128 u))))))) (layers u) (omega arith) refl (opposites-from 1 128 opposites_1) l7 w0 in
-    let w2 : IsMultiple 4 (layer 4 (layer 8 (layer 16 (layer 32 (layer 64 (layer 128 u)))))) (inverse_layer 2 (inverse_layer 1 (layers u))) =
-    layer-undone 2 64 2 (layer 4 (layer 8 (layer 16 (layer 32 (layer 64 (layer 128 u)))))) (inverse_layer 1 (layers u)) (omega arith) refl (opposites-from 2 64 opposites_2) l6 w1 in
-    let w3 : IsMultiple 8 (layer 8 (layer 16 (layer 32 (layer 64 (layer 128 u))))) (inverse_layer 4 (inverse_layer 2 (inverse_layer 1 (layers u)))) =
-    layer-undone 4 32 4 (layer 8 (layer 16 (layer 32 (layer 64 (layer 128 u))))) (inverse_layer 2 (inverse_layer 1 (layers u))) (omega arith) refl (opposites-from 4 32 opposites_4) l5 w2 in
-    let w4 : IsMultiple 16 (layer 16 (layer 32 (layer 64 (layer 128 u)))) (inverse_layer 8 (inverse_layer 4 (inverse_layer 2 (inverse_layer 1 (layers u))))) =
-    layer-undone 8 16 8 (layer 16 (layer 32 (layer 64 (layer 128 u)))) (inverse_layer 4 (inverse_layer 2 (inverse_layer 1 (layers u)))) (omega arith) refl (opposites-from 8 16 opposites_8) l4 w3 in
-    let w5 : IsMultiple 32 (layer 32 (layer 64 (layer 128 u))) (inverse_layer 16 (inverse_layer 8 (inverse_layer 4 (inverse_layer 2 (inverse_layer 1 (layers u)))))) =
-    layer-undone 16 8 16 (layer 32 (layer 64 (layer 128 u))) (inverse_layer 8 (inverse_layer 4 (inverse_layer 2 (inverse_layer 1 (layers u))))) (omega arith) refl (opposites-from 16 8 opposites_16) l3 w4 in
-    let w6 : IsMultiple 64 (layer 64 (layer 128 u)) (inverse_layer 32 (inverse_layer 16 (inverse_layer 8 (inverse_layer 4 (inverse_layer 2 (inverse_layer 1 (layers u))))))) =
-    layer-undone 32 4 32 (layer 64 (layer 128 u)) (inverse_layer 16 (inverse_layer 8 (inverse_layer 4 (inverse_layer 2 (inverse_layer 1 (layers u)))))) (omega arith) refl (opposites-from 32 4 opposites_32) l2 w5 in
-    let w7 : IsMultiple 128 (layer 128 u) (inverse_layer 64 (inverse_layer 32 (inverse_layer 16 (inverse_layer 8 (inverse_layer 4 (inverse_layer 2 (inverse_layer 1 (layers u)))))))) =
-    layer-undone 64 2 64 (layer 128 u) (inverse_layer 32 (inverse_layer 16 (inverse_layer 8 (inverse_layer 4 (inverse_layer 2 (inverse_layer 1 (layers u))))))) (omega arith) refl (opposites-from 64 2 opposites_64) l1 w6 in
-    layer-undone 128 1 128 u (inverse_layer 64 (inverse_layer 32 (inverse_layer 16 (inverse_layer 8 (inverse_layer 4 (inverse_layer 2 (inverse_layer 1 (layers u)))))))) (omega arith) refl (opposites-from 128 1 opposites_128) long w7
+    let w0 : IsMultiple 8380417 1 (layers u) (layers u) = itself 8380417 (layers u) (length-layer 1 128 (layer 2 (layer 4 (layer 8 (layer 16 (layer 32 (layer 64 (layer 128 u))))))) (omega arith) refl l7) below in
+    let w1 : IsMultiple 8380417 2 (layer 2 (layer 4 (layer 8 (layer 16 (layer 32 (layer 64 (layer 128 u))))))) (inverse_layer 1 (layers u)) =
+    undone 1 128 1 (layer 2 (layer 4 (layer 8 (layer 16 (layer 32 (layer 64 (layer 128 u))))))) (layers u) (omega arith) refl (opposites-from 8380417 zeta 1 128 opposites_1) l7 w0 in
+    let w2 : IsMultiple 8380417 4 (layer 4 (layer 8 (layer 16 (layer 32 (layer 64 (layer 128 u)))))) (inverse_layer 2 (inverse_layer 1 (layers u))) =
+    undone 2 64 2 (layer 4 (layer 8 (layer 16 (layer 32 (layer 64 (layer 128 u)))))) (inverse_layer 1 (layers u)) (omega arith) refl (opposites-from 8380417 zeta 2 64 opposites_2) l6 w1 in
+    let w3 : IsMultiple 8380417 8 (layer 8 (layer 16 (layer 32 (layer 64 (layer 128 u))))) (inverse_layer 4 (inverse_layer 2 (inverse_layer 1 (layers u)))) =
+    undone 4 32 4 (layer 8 (layer 16 (layer 32 (layer 64 (layer 128 u))))) (inverse_layer 2 (inverse_layer 1 (layers u))) (omega arith) refl (opposites-from 8380417 zeta 4 32 opposites_4) l5 w2 in
+    let w4 : IsMultiple 8380417 16 (layer 16 (layer 32 (layer 64 (layer 128 u)))) (inverse_layer 8 (inverse_layer 4 (inverse_layer 2 (inverse_layer 1 (layers u))))) =
+    undone 8 16 8 (layer 16 (layer 32 (layer 64 (layer 128 u)))) (inverse_layer 4 (inverse_layer 2 (inverse_layer 1 (layers u)))) (omega arith) refl (opposites-from 8380417 zeta 8 16 opposites_8) l4 w3 in
+    let w5 : IsMultiple 8380417 32 (layer 32 (layer 64 (layer 128 u))) (inverse_layer 16 (inverse_layer 8 (inverse_layer 4 (inverse_layer 2 (inverse_layer 1 (layers u)))))) =
+    undone 16 8 16 (layer 32 (layer 64 (layer 128 u))) (inverse_layer 8 (inverse_layer 4 (inverse_layer 2 (inverse_layer 1 (layers u))))) (omega arith) refl (opposites-from 8380417 zeta 16 8 opposites_16) l3 w4 in
+    let w6 : IsMultiple 8380417 64 (layer 64 (layer 128 u)) (inverse_layer 32 (inverse_layer 16 (inverse_layer 8 (inverse_layer 4 (inverse_layer 2 (inverse_layer 1 (layers u))))))) =
+    undone 32 4 32 (layer 64 (layer 128 u)) (inverse_layer 16 (inverse_layer 8 (inverse_layer 4 (inverse_layer 2 (inverse_layer 1 (layers u)))))) (omega arith) refl (opposites-from 8380417 zeta 32 4 opposites_32) l2 w5 in
+    let w7 : IsMultiple 8380417 128 (layer 128 u) (inverse_layer 64 (inverse_layer 32 (inverse_layer 16 (inverse_layer 8 (inverse_layer 4 (inverse_layer 2 (inverse_layer 1 (layers u)))))))) =
+    undone 64 2 64 (layer 128 u) (inverse_layer 32 (inverse_layer 16 (inverse_layer 8 (inverse_layer 4 (inverse_layer 2 (inverse_layer 1 (layers u))))))) (omega arith) refl (opposites-from 8380417 zeta 64 2 opposites_64) l1 w6 in
+    undone 128 1 128 u (inverse_layer 64 (inverse_layer 32 (inverse_layer 16 (inverse_layer 8 (inverse_layer 4 (inverse_layer 2 (inverse_layer 1 (layers u)))))))) (omega arith) refl (opposites-from 8380417 zeta 128 1 opposites_128) long w7
 
 pub inverse-layers : (h : List ℕ) → IsPolynomial 8380417 h → inverse_layers h ≡ inverse_transform h
 inverse-layers h is =
@@ -104,7 +96,7 @@ inverse-layers h is =
     let whole : layers u ≡ h = layers-transform u polynomial ∙ transform-inverse h is in
     let below : (n : ℕ) → n < 256 → get_or (layers u) n 0 < 8380417 = λ n inside.
     subst (λ x. x < 8380417) (ap (λ h. get_or h n 0) (sym whole)) (is.each n 0 (omega (arith, inside, is.size))) in
-    let all : IsMultiple 256 u (back (layers u)) = eight u polynomial.size below in
+    let all : IsMultiple 8380417 256 u (back (layers u)) = eight u polynomial.size below in
     let done : multiple 8380417 8347681 (back (layers u)) ≡ u =
     ext_get_or 0 (multiple 8380417 8347681 (back (layers u))) u
     (length-map (back (layers u)) (times 8380417 8347681) ∙ all.size ∙ sym polynomial.size)

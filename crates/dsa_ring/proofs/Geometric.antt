@@ -2,8 +2,8 @@
 use Rattle.std.proofs.Common.{◌≡◌, ℕ, zero, suc, ◌+◌, ◌*◌, ◌%◌, ◌^◌, refl, sym, ap, ap₂, ◌∙◌, arith}
 use Rattle.std.proofs.Math.Nat.{pow-succ', pow-zero}
 use Rattle.std.proofs.lemmas.Nat.{pow-add}
-use Rattle.dsa_ring.proofs.Powers.{pow-one, pow-pow, power-mod}
-use Rattle.dsa_ring.proofs.Sums.{over, over-pairs, over-same, over-suc, over-times, plus-mod, times-mod}
+use Rattle.lattice_transform.proofs.Powers.{pow-one, pow-pow, power-mod}
+use Rattle.lattice_transform.proofs.Sums.{over, over-pairs, over-same, over-suc, over-times, plus-mod, times-mod}
 
 -- (1 + x)·(1 + x^2)·(1 + x^4)·.., of d factors
 abbrev pub doubled : ℕ → ℕ → ℕ

@@ -4,10 +4,10 @@ use Rattle.std.proofs.Math.Nat.{mod-lt, mul_assoc, mul_comm, mul_left_comm}
 use Rattle.std.proofs.lemmas.List.{ext_get_or}
 use Rattle.std.proofs.lemmas.List.FromFn.{get_or-map-range_with_len, length-map-range_with_len}
 use Rattle.module_lattice.specs.Ring.{IsPolynomial}
+use Rattle.lattice_transform.proofs.Sums.{over, over-same, over-times}
+use Rattle.lattice_transform.proofs.Undo.{undone}
 use Rattle.dsa_ring.specs.Transform.{inverse_coefficient, inverse_transform, root, root_power_of_minus, transform, transform_number}
 use Rattle.dsa_ring.proofs.Cross.{crossed, summed}
-use Rattle.dsa_ring.proofs.Sums.{over, over-same, over-times}
-use Rattle.dsa_ring.proofs.Undo.{undone}
 
 -- the numbers of a transform, and of an inverse
 pub transform-at : (f : List ℕ) (i : ℕ) → i < 256 → get_or (transform f) i 0 ≡ transform_number f i

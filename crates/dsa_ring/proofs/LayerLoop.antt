@@ -3,8 +3,9 @@ use Rattle.std.proofs.Common.{◌≡◌, ℕ, ◌+◌, ◌-◌, ◌*◌, ◌/◌
 use Rattle.std.proofs.Math.Nat.{mul-le-mul_right}
 use Rattle.std.proofs.lemmas.Bool.{cases_eq}
 use Rattle.module_lattice.specs.Ring.{IsPolynomial, butterfly}
-use Rattle.dsa_ring.specs.Layers.{butterflies, first_place, inverse_butterflies, inverse_butterfly, layer, zeta}
-use Rattle.dsa_ring.proofs.Groups.{are-apart, group-below}
+use Rattle.lattice_transform.specs.Layers.{first_place}
+use Rattle.lattice_transform.proofs.Groups.{are-apart, group-below}
+use Rattle.dsa_ring.specs.Layers.{butterflies, inverse_butterflies, inverse_butterfly, layer, zeta}
 
 pub first-inside : (half k : ℕ) → 1 ≤ half → half * (128 / half) ≡ 128 → k < 128 → first_place half k < 256
 first-inside half k low whole inside = (are-apart half (128 / half) (omega arith) whole).first_inside k inside

@@ -4,12 +4,6 @@ pub mod Near
 pub mod Bounds
 -- a hint recovers the high part
 pub mod HintLaw
--- sums over ranges
-pub mod Sums
--- powers
-pub mod Powers
--- tables of weights that undo each other
-pub mod Undo
 -- sums of powers as products
 pub mod Geometric
 -- sums in another order
@@ -22,16 +16,10 @@ pub mod Cross
 pub mod Inverse
 -- the transform keeps sums
 pub mod SumLaw
--- sums of the coefficients of a product
-pub mod Coefficients
 -- the transform of a product
 pub mod ProductLaw
--- butterflies at places that differ
-pub mod Butterflies
--- the places of a layer
-pub mod Groups
--- a layer on remainders
-pub mod Remainders
+-- the layers of this transform as stages
+pub mod Stages
 -- eight layers
 pub mod Eight
 -- the table of the zetas
@@ -40,9 +28,5 @@ pub mod ZetaTable
 pub mod LayerLoop
 -- the loops over the groups of a layer and over the butterflies of a group
 pub mod GroupLoop
--- a layer, undone up to a factor
-pub mod Back
 -- eight layers back
 pub mod EightBack
--- a list that is copied
-pub mod Copies

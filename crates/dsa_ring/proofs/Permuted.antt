@@ -1,7 +1,7 @@
 -- A sum in another order.
 use Rattle.std.proofs.Common.{◌≡◌, ℕ, ◌*◌, ◌<◌, refl, sym, ap, ◌∙◌, arith}
-use Rattle.dsa_ring.proofs.Sums.{over, over-same, over-single, over-swap}
-use Rattle.dsa_ring.proofs.Undo.{unit, unit-other, unit-same}
+use Rattle.lattice_transform.proofs.Sums.{over, over-same, over-single, over-swap}
+use Rattle.lattice_transform.proofs.Undo.{unit, unit-other, unit-same}
 
 one_of : (f u : ℕ) → u ≡ 1 → f * u ≡ f
 one_of f u is = ap (λ u. f * u) is ∙ omega arith

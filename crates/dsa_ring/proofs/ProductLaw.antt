@@ -5,11 +5,11 @@ use Rattle.std.proofs.lemmas.List.FromFn.{get_or-map-range_with_len, length-map-
 use Rattle.std.proofs.lemmas.Nat.{mul-mod, pow-add}
 use Rattle.std.proofs.lemmas.Simd.{length-zip2, get_or-zip2}
 use Rattle.module_lattice.specs.Ring.{IsPolynomial, product, product_coefficient, times}
+use Rattle.lattice_transform.proofs.Products.{over-times_last, product-weighed}
+use Rattle.lattice_transform.proofs.Sums.{over, over-same, over-times, times-mod}
 use Rattle.dsa_ring.specs.Transform.{inverse_transform, place_products, root, transform, transform_number}
 use Rattle.dsa_ring.proofs.Inverse.{inverse-transform, length-transform, same-numbers, transform-at}
-use Rattle.dsa_ring.proofs.Coefficients.{over-times_last, product-weighed}
 use Rattle.dsa_ring.proofs.Roots.{power_256}
-use Rattle.dsa_ring.proofs.Sums.{over, over-same, over-times, times-mod}
 
 -- the numbers of f with the powers of a root
 abbrev weighed : List ℕ → ℕ → ℕ
@@ -46,7 +46,7 @@ number-product : (f g : List ℕ) (i : ℕ) → i < 256 → transform_number (pr
 number-product f g i inside =
     let z : ℕ = root i in
     ap (λ x. x % 8380417) (coefficients f g (λ k. z ^ k))
-    ∙ product-weighed f g (λ k. z ^ k) (turns i inside)
+    ∙ product-weighed 8380417 (omega arith) f g (λ k. z ^ k) (turns i inside)
     ∙ ap (λ x. x % 8380417) (double f g z)
     ∙ mul-mod (weighed f z) (weighed g z) 8380417
 

@@ -1,21 +1,14 @@
 -- The powers of the roots h(i).
-use Rattle.std.proofs.Common.{◌≡◌, ℕ, ◌+◌, ◌-◌, ◌*◌, ◌/◌, ◌%◌, ◌^◌, ◌<◌, ◌≤◌, List, map, get_or, refl, subst, sym, ap, ◌∙◌, arith}
+use Rattle.std.proofs.Common.{◌≡◌, ℕ, ◌+◌, ◌*◌, ◌/◌, ◌%◌, ◌^◌, ◌<◌, map, refl, subst, sym, ap, ◌∙◌, arith}
 use Rattle.std.specs.Prelude.{if◌then◌else◌, ◌==◌}
 use Rattle.std.specs.List.{range_with_len}
 use Rattle.std.proofs.Math.Nat.{div-add-mod, mod-lt, mod-mod}
-use Rattle.std.proofs.lemmas.List.FromFn.{get_or-map-range_with_len}
 use Rattle.std.proofs.lemmas.Nat.{pow-add, pow-mod}
+use Rattle.lattice_transform.proofs.Powers.{one-pow, pow-pow, power-mod}
+use Rattle.lattice_transform.proofs.Sums.{over, times-mod}
+use Rattle.lattice_transform.proofs.Tables.{from_table}
 use Rattle.dsa_ring.specs.Transform.{bit_rev8, root}
 use Rattle.dsa_ring.proofs.Geometric.{doubled, doubled-mod, over-powers}
-use Rattle.dsa_ring.proofs.Powers.{one-pow, pow-pow, power-mod}
-use Rattle.dsa_ring.proofs.Sums.{over, times-mod}
-
--- a rule that is a list, place by place
-pub from_table : (f g : ℕ → ℕ) (a n k : ℕ) → map f (range_with_len a n) ≡ map g (range_with_len a n) → a ≤ k → k < a + n → f k ≡ g k
-from_table f g a n k same low high =
-    sym (get_or-map-range_with_len f a n (k - a) k 0 (omega arith) (omega arith))
-    ∙ ap (λ (xs : List ℕ). get_or xs (k - a) 0) same
-    ∙ get_or-map-range_with_len g a n (k - a) k 0 (omega arith) (omega arith)
 
 -- ---- bits in reverse order
 

@@ -3,9 +3,9 @@ use Rattle.std.proofs.Common.{◌≡◌, ℕ, ◌+◌, ◌*◌, ◌%◌, ◌^◌
 use Rattle.std.proofs.Math.Nat.{add-mod, add-mul, mod-mod}
 use Rattle.std.proofs.lemmas.Simd.{length-zip2, get_or-zip2}
 use Rattle.module_lattice.specs.Ring.{IsPolynomial, plus, sum}
+use Rattle.lattice_transform.proofs.Sums.{over, over-mod, over-plus, times-mod}
 use Rattle.dsa_ring.specs.Transform.{root, transform, transform_number}
 use Rattle.dsa_ring.proofs.Inverse.{length-transform, same-numbers, transform-at}
-use Rattle.dsa_ring.proofs.Sums.{over, over-mod, over-plus, times-mod}
 
 -- one number
 number-sum : (f g : List ℕ) (i : ℕ) → IsPolynomial 8380417 f → IsPolynomial 8380417 g

@@ -2,18 +2,15 @@
 -- with q = 8380417.
 use Rattle.std.specs.Prelude.{ℕ, zero, suc, ◌+◌, ◌-◌, ◌*◌, ◌/◌, ◌^◌, ◌%◌, List, slice_index, slice_set}
 use Rattle.module_lattice.specs.Ring.{butterfly, minus, multiple, plus, times}
+use Rattle.lattice_transform.specs.Layers.{first_place}
 use Rattle.dsa_ring.specs.Transform.{bit_rev8}
 
 -- 1753^BitRev8(k), the zeta of group k. Groups are counted over all layers, from 1.
 unfoldable pub zeta : ℕ → ℕ
 zeta k = 1753 ^ bit_rev8 k % 8380417
 
--- where butterfly k of a layer begins. Its places stand `half` apart, and a group has `half` butterflies
--- over 2·half places.
-abbrev pub first_place : ℕ → ℕ → ℕ
-first_place half k = k + half * (k / half)
-
--- a list after the first n butterflies of the layer with this half-length
+-- a list after the first n butterflies of the layer with this half-length. Butterfly k begins at
+-- first_place half k, and its two places stand `half` apart.
 unfoldable pub butterflies : ℕ → ℕ → List ℕ → List ℕ
 butterflies half zero f = f
 butterflies half (suc n) f = butterfly 8380417 (first_place half n) (first_place half n + half) (zeta (128 / half + n / half)) (butterflies half n f)

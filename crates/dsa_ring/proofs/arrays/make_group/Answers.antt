@@ -1,5 +1,6 @@
 use Rattle.std.proofs.Common.{◌+◌, ◌*◌, ◌≤◌, arith}
-use Rattle.dsa_ring.proofs.GroupLoop.{butterflies-same, group-within, next-in-group, zeta-inside}
+use Rattle.lattice_transform.proofs.GroupLoop.{group-within}
+use Rattle.dsa_ring.proofs.GroupLoop.{butterflies-same, next-in-group, zeta-inside}
 use Rattle.dsa_ring.proofs.arrays.make_group.Goals as goal
 
 pub zeta-turn-requires : goal.zeta-turn-requires
