@@ -1,17 +1,16 @@
 -- Words and a text have one due answer.
-use Rattle.std.proofs.Common.{◌≡◌, ℕ, List, [], ◌∷◌, ◌++◌, Option, Some, None, Err, get_or, refl, sym, ap, subst, ◌∙◌, inl, inr, arith}
-use Rattle.std.specs.Prelude.{codes, decimal}
+use Rattle.std.proofs.Common.{◌≡◌, ℕ, List, [], ◌∷◌, ◌++◌, Option, Some, None, Err, get_or, refl, sym, ap, subst, ◌∙◌, ◌⊎◌, inl, inr, arith}
+use Rattle.std.specs.Prelude.{Ok, codes, decimal}
 use Rattle.std.proofs.lemmas.Fmt.{decimal_injective}
 use Rattle.kem_hash.specs.Family.{Family}
 use Rattle.ml_kem.specs.Parameters.{Parameters}
 use Rattle.ml_kem.specs.Keys.{key_of, Key as KeyRecord}
-use Rattle.gcm_core.specs.Gcm.{open_of}
 use Rattle.hpke.specs.Schedule.{KdfAlgorithm, AeadAlgorithm}
-use Rattle.kem_mail.specs.Command.{Spells, words_of, set_word, kdf_word, aead_word, parameters, kdf_algorithm, aead_algorithm}
-use Rattle.kem_mail.specs.Input.{IsHead, IsSeedLine, IsPart, FailsAt}
-use Rattle.kem_mail.specs.Lines.{fault_line}
-use Rattle.kem_mail.specs.Mail.{OpenMeaning, OpensByKey, Verdict, lattice_opener}
-use Rattle.kem_mail.specs.Due.{Due, ComesTo, IsInput, key_verdict, no_command_line, verdict_output, verdict_status}
+use Rattle.kem_mail.specs.Command.{Spells, words_of, set_word, kdf_word, aead_word, parameters, kdf_algorithm, aead_algorithm, aead_open}
+use Rattle.kem_mail.specs.Input.{IsHead, IsHeadText, IsSeedLine, IsPart, FailsAt}
+use Rattle.kem_mail.specs.Lines.{no_command_line}
+use Rattle.kem_mail.specs.Mail.{IsVerdict, OpenMeaning, OpensByKey, SameBodies, Verdict, lattice_opener}
+use Rattle.kem_mail.specs.Due.{Due, ComesTo, EndsWith, IsAnswer, IsInput, Outcome, key_verdict, outcome_output, outcome_status}
 use Rattle.kem_mail.specs.declared.command.Command.{Command}
 use Rattle.kem_mail.specs.declared.command.Command.TheVariants.{Open, Key}
 use Rattle.kem_mail.specs.declared.command.SuiteName.{SuiteName}
@@ -21,9 +20,11 @@ use Rattle.kem_mail.specs.declared.command.KdfName.{KdfName}
 use Rattle.kem_mail.specs.declared.command.KdfName.TheVariants.{Sha256, Sha384, Sha512}
 use Rattle.kem_mail.specs.declared.command.AeadName.{AeadName}
 use Rattle.kem_mail.specs.declared.command.AeadName.TheVariants.{Aes128, Aes256}
-use Rattle.kem_mail.specs.declared.error.MailError.TheVariants.{XofExhausted}
+use Rattle.kem_mail.specs.declared.error.MailError.TheVariants.{NoMemory, ReadFault, XofExhausted}
+use Rattle.kem_mail.specs.declared.error.RunError.TheVariants.{Place, Ended, Mail}
 use Rattle.kem_mail.proofs.Inputs.{Stands, one_head_end, one_head_value, one_input_end, one_line_end, one_line_value, one_place, fails_no_part, some_input, whole_no_fails, whole_no_part}
-use Rattle.kem_mail.proofs.Verdicts.{same_verdict, some_verdict}
+use Rattle.kem_mail.proofs.Verdicts.{opens_verdict, same_bodies_verdict, same_verdict, some_verdict}
+use Rattle.kem_mail.proofs.Runs.{of_verdict, ends_verdict}
 
 -- ---- words
 
@@ -107,12 +108,29 @@ some_by_key set family kdf aead meaning seed info text budget none = by (key_of 
       with_key = λ other f. let g : Some key ≡ Some other = sym e ∙ f in opens;
     }))
 
+-- what a lattice key comes to is a verdict
+pub by_key_verdict : (set : Parameters) (family : Family) (kdf : KdfAlgorithm) (aead : AeadAlgorithm) (meaning : OpenMeaning) (seed info text : List ℕ) (budget : ℕ) (v : Verdict)
+    → OpensByKey set family kdf aead meaning seed info text budget v → IsVerdict v
+by_key_verdict set family kdf aead meaning seed info text budget v opens = by (key_of set family seed) refl
+  where
+    by : (key : Option KeyRecord) → key_of set family seed ≡ key → IsVerdict v
+    by None e = let same = opens.without_key e in ((λ f. let g = sym same ∙ f in cc g), (λ f. let g = sym same ∙ f in cc g))
+    by (Some key) e = opens_verdict (lattice_opener set family kdf aead meaning seed info) text budget v (opens.with_key key e)
+
+-- two mails with the same bodies come to the same
+pub same_bodies_by_key : (set : Parameters) (family : Family) (kdf : KdfAlgorithm) (aead : AeadAlgorithm) (meaning : OpenMeaning) (seed info text other : List ℕ) (budget limit : ℕ) (v : Verdict)
+    → SameBodies text budget other limit → OpensByKey set family kdf aead meaning seed info text budget v → OpensByKey set family kdf aead meaning seed info other limit v
+same_bodies_by_key set family kdf aead meaning seed info text other budget limit v same opens = record {
+  without_key = opens.without_key;
+  with_key = λ key e. same_bodies_verdict (lattice_opener set family kdf aead meaning seed info) text other budget limit v same (opens.with_key key e);
+}
+
 -- a command comes to one verdict over a text
 pub same_comes : (family : Family) (command : Command) (text : List ℕ) (v w : Verdict) → ComesTo family command text v → ComesTo family command text w → v ≡ w
 same_comes family (Open suite budget) text v w (head, seed, info, rest, whole, is, opens) (head', seed', info', rest', whole', is', opens') =
     let both = one_head_end head head' rest rest' (seed, info, is) (seed', info', is') (sym whole ∙ whole') in
     let values = one_head_value head seed info seed' info' is (subst (λ (t : List ℕ). IsHead t seed' info') (sym both.0) is') in
-    same_by_key (parameters suite.set) family (kdf_algorithm suite.kdf) (aead_algorithm suite.aead) open_of seed info rest budget v w opens
+    same_by_key (parameters suite.set) family (kdf_algorithm suite.kdf) (aead_algorithm suite.aead) (aead_open suite.aead) seed info rest budget v w opens
     (rw (values.0, values.1, both.1) opens')
 same_comes family (Key set) text v w (line, seed, rest, whole, is, comes) (line', seed', rest', whole', is', comes') =
     let both = one_line_end 128 128 line line' rest rest' (seed, is) (seed', is') (sym whole ∙ whole') in
@@ -134,61 +152,124 @@ comes_no_part : (family : Family) (command : Command) (text : List ℕ) (v : Ver
 comes_no_part family command text v c p =
     let w = comes_whole family command text v c in whole_no_part (IsInput command) (one_input_end command) text w.0 w.1 w.2 w.3 p
 
+-- a command ends with what it comes to, or with a fault of its input
+abbrev Ends : Family → Command → List ℕ → Outcome → Type 0
+Ends family command text outcome = ((v : Verdict) × ComesTo family command text v × (outcome ≡ of_verdict v))
+    ⊎ (((place : ℕ) × FailsAt (IsInput command) text place × (outcome ≡ Err (Place place))) ⊎ (IsPart (IsInput command) text × (outcome ≡ Err Ended)))
+
+ends_as : (family : Family) (command : Command) (text : List ℕ) (outcome : Outcome) → EndsWith family command text outcome → Ends family command text outcome
+ends_as family command text (Ok items) ends = inl (Ok items, ends, refl)
+ends_as family command text (Err (Place place)) ends = inr (inl (place, ends, refl))
+ends_as family command text (Err Ended) ends = inr (inr (ends, refl))
+ends_as family command text (Err (Mail error)) ends = inl (Err error, ends, refl)
+
+same_ends : (family : Family) (command : Command) (text : List ℕ) (one other : Outcome) → Ends family command text one → Ends family command text other → one ≡ other
+same_ends family command text one other (inl (v, comes, is)) (inl (w, comes', is')) = is ∙ (ap of_verdict (same_comes family command text v w comes comes') ∙ sym is')
+same_ends family command text one other (inl (v, comes, is)) (inr (inl (place, fails, is'))) = absurd (comes_no_fails family command text v place comes fails)
+same_ends family command text one other (inl (v, comes, is)) (inr (inr (part, is'))) = absurd (comes_no_part family command text v comes part)
+same_ends family command text one other (inr (inl (place, fails, is))) (inl (w, comes', is')) = absurd (comes_no_fails family command text w place comes' fails)
+same_ends family command text one other (inr (inl (place, fails, is))) (inr (inl (place', fails', is'))) = is ∙ (ap (λ (p : ℕ). Err (Place p)) (one_place (IsInput command) text place place' fails fails') ∙ sym is')
+same_ends family command text one other (inr (inl (place, fails, is))) (inr (inr (part, is'))) = absurd (fails_no_part (IsInput command) text place fails part)
+same_ends family command text one other (inr (inr (part, is))) (inl (w, comes', is')) = absurd (comes_no_part family command text w comes' part)
+same_ends family command text one other (inr (inr (part, is))) (inr (inl (place', fails', is'))) = absurd (fails_no_part (IsInput command) text place' fails' part)
+same_ends family command text one other (inr (inr (part, is))) (inr (inr (part', is'))) = is ∙ sym is'
+
+-- a command ends with one outcome
+pub same_outcome : (family : Family) (command : Command) (text : List ℕ) (one other : Outcome) → EndsWith family command text one → EndsWith family command text other → one ≡ other
+same_outcome family command text one other d e = same_ends family command text one other (ends_as family command text one d) (ends_as family command text other e)
+
 pub same_due : (family : Family) (words : List (List ℕ)) (text : List ℕ) (one other : ℕ) (output another : List ℕ) → Due family words text one output → Due family words text other another → (one ≡ other) × (output ≡ another)
 same_due family words text one other output another (inl d) (inl e) =
     let same = one_command words e.command d.command e.spelled d.spelled in
-    let verdicts = same_comes family d.command text d.verdict e.verdict d.comes_to (subst (λ (c : Command). ComesTo family c text e.verdict) same e.comes_to) in
-    (d.status_is ∙ (ap verdict_status verdicts ∙ sym e.status_is), d.output_is ∙ (ap verdict_output verdicts ∙ sym e.output_is))
-same_due family words text one other output another (inl d) (inr (inl e)) = absurd (e.no_command d.command d.spelled)
-same_due family words text one other output another (inl d) (inr (inr (inl e))) =
-    absurd (comes_no_fails family d.command text d.verdict e.place d.comes_to (subst (λ (c : Command). FailsAt (IsInput c) text e.place) (one_command words e.command d.command e.spelled d.spelled) e.fails))
-same_due family words text one other output another (inl d) (inr (inr (inr e))) =
-    absurd (comes_no_part family d.command text d.verdict d.comes_to (subst (λ (c : Command). IsPart (IsInput c) text) (one_command words e.command d.command e.spelled d.spelled) e.part))
-same_due family words text one other output another (inr (inl d)) (inl e) = absurd (d.no_command e.command e.spelled)
-same_due family words text one other output another (inr (inl d)) (inr (inl e)) = (d.status_is ∙ sym e.status_is, d.output_is ∙ sym e.output_is)
-same_due family words text one other output another (inr (inl d)) (inr (inr (inl e))) = absurd (d.no_command e.command e.spelled)
-same_due family words text one other output another (inr (inl d)) (inr (inr (inr e))) = absurd (d.no_command e.command e.spelled)
-same_due family words text one other output another (inr (inr (inl d))) (inl e) =
-    absurd (comes_no_fails family e.command text e.verdict d.place e.comes_to (subst (λ (c : Command). FailsAt (IsInput c) text d.place) (one_command words d.command e.command d.spelled e.spelled) d.fails))
-same_due family words text one other output another (inr (inr (inl d))) (inr (inl e)) = absurd (e.no_command d.command d.spelled)
-same_due family words text one other output another (inr (inr (inl d))) (inr (inr (inl e))) =
-    let same = one_command words e.command d.command e.spelled d.spelled in
-    let places = one_place (IsInput d.command) text d.place e.place d.fails (subst (λ (c : Command). FailsAt (IsInput c) text e.place) same e.fails) in
-    (d.status_is ∙ sym e.status_is, d.output_is ∙ (ap (λ (place : ℕ). fault_line (codes "head") (place ∷ [])) places ∙ sym e.output_is))
-same_due family words text one other output another (inr (inr (inl d))) (inr (inr (inr e))) =
-    absurd (fails_no_part (IsInput d.command) text d.place d.fails (subst (λ (c : Command). IsPart (IsInput c) text) (one_command words e.command d.command e.spelled d.spelled) e.part))
-same_due family words text one other output another (inr (inr (inr d))) (inl e) =
-    absurd (comes_no_part family e.command text e.verdict e.comes_to (subst (λ (c : Command). IsPart (IsInput c) text) (one_command words d.command e.command d.spelled e.spelled) d.part))
-same_due family words text one other output another (inr (inr (inr d))) (inr (inl e)) = absurd (e.no_command d.command d.spelled)
-same_due family words text one other output another (inr (inr (inr d))) (inr (inr (inl e))) =
-    absurd (fails_no_part (IsInput e.command) text e.place e.fails (subst (λ (c : Command). IsPart (IsInput c) text) (one_command words d.command e.command d.spelled e.spelled) d.part))
-same_due family words text one other output another (inr (inr (inr d))) (inr (inr (inr e))) = (d.status_is ∙ sym e.status_is, d.output_is ∙ sym e.output_is)
+    let outcomes = same_outcome family d.command text d.outcome e.outcome d.ends_with (subst (λ (c : Command). EndsWith family c text e.outcome) same e.ends_with) in
+    (d.status_is ∙ (ap outcome_status outcomes ∙ sym e.status_is), d.output_is ∙ (ap outcome_output outcomes ∙ sym e.output_is))
+same_due family words text one other output another (inl d) (inr e) = absurd (e.no_command d.command d.spelled)
+same_due family words text one other output another (inr d) (inl e) = absurd (d.no_command e.command e.spelled)
+same_due family words text one other output another (inr d) (inr e) = (d.status_is ∙ sym e.status_is, d.output_is ∙ sym e.output_is)
+
+-- what a command comes to is a verdict
+key_is_verdict : (o : Option KeyRecord) → IsVerdict (key_verdict o)
+key_is_verdict None = ((λ e. cc e), (λ e. cc e))
+key_is_verdict (Some key) = ((λ e. cc e), (λ e. cc e))
+
+comes_verdict : (family : Family) (command : Command) (text : List ℕ) (v : Verdict) → ComesTo family command text v → IsVerdict v
+comes_verdict family (Open suite budget) text v (head, seed, info, rest, whole, is, opens) =
+    by_key_verdict (parameters suite.set) family (kdf_algorithm suite.kdf) (aead_algorithm suite.aead) (aead_open suite.aead) seed info rest budget v opens
+comes_verdict family (Key set) text v (line, seed, rest, whole, is, comes) = subst IsVerdict (sym comes) (key_is_verdict (key_of (parameters set) family seed))
+
+verdict_answer : (v : Verdict) → IsVerdict v → IsAnswer (outcome_status (of_verdict v))
+verdict_answer (Ok items) is = inl refl
+verdict_answer (Err NoMemory) is = absurd (is.0 refl)
+verdict_answer (Err ReadFault) is = absurd (is.1 refl)
+verdict_answer (Err error) is = inr (inr refl)
+
+ends_answer : (family : Family) (command : Command) (text : List ℕ) (outcome : Outcome) → Ends family command text outcome → IsAnswer (outcome_status outcome)
+ends_answer family command text outcome (inl (v, comes, is)) = subst (λ (o : Outcome). IsAnswer (outcome_status o)) (sym is) (verdict_answer v (comes_verdict family command text v comes))
+ends_answer family command text outcome (inr (inl (place, fails, is))) = inr (inr (ap outcome_status is))
+ends_answer family command text outcome (inr (inr (part, is))) = inr (inr (ap outcome_status is))
+
+-- a status that is due says what is owed
+pub due_answer : (family : Family) (words : List (List ℕ)) (text : List ℕ) (status : ℕ) (output : List ℕ) → Due family words text status output → IsAnswer status
+due_answer family words text status output (inl d) = subst IsAnswer (sym d.status_is) (ends_answer family d.command text d.outcome (ends_as family d.command text d.outcome d.ends_with))
+due_answer family words text status output (inr d) = inr (inl d.status_is)
+
+-- ---- behind one head
+
+module _ (family : Family) (suite : SuiteName) (budget limit : ℕ) (head mail other : List ℕ) (is : IsHeadText head) (same : SameBodies mail budget other limit) where
+  whole_comes : (v : Verdict) → ComesTo family (Open suite budget) (head ++ mail) v → ComesTo family (Open suite limit) (head ++ other) v
+  whole_comes v (head', seed, info, rest, whole, is', opens) =
+      let both = one_head_end head head' mail rest is (seed, info, is') whole in
+      let there = subst (λ (t : List ℕ). OpensByKey (parameters suite.set) family (kdf_algorithm suite.kdf) (aead_algorithm suite.aead) (aead_open suite.aead) seed info t budget v) (sym both.1) opens in (
+        head,
+        seed,
+        info,
+        other,
+        refl,
+        subst (λ (t : List ℕ). IsHead t seed info) (sym both.0) is',
+        same_bodies_by_key (parameters suite.set) family (kdf_algorithm suite.kdf) (aead_algorithm suite.aead) (aead_open suite.aead) seed info mail other budget limit v same there,
+      )
+
+  whole_ends : (outcome : Outcome) → Ends family (Open suite budget) (head ++ mail) outcome → EndsWith family (Open suite limit) (head ++ other) outcome
+  whole_ends outcome (inl (v, comes, is')) = subst (EndsWith family (Open suite limit) (head ++ other)) (sym is') (ends_verdict family (Open suite limit) (head ++ other) v (whole_comes v comes))
+  whole_ends outcome (inr (inl (place, fails, is'))) = absurd (whole_no_fails (IsInput (Open suite budget)) (one_input_end (Open suite budget)) (head ++ mail) head mail place refl is fails)
+  whole_ends outcome (inr (inr (part, is'))) = absurd (whole_no_part (IsInput (Open suite budget)) (one_input_end (Open suite budget)) (head ++ mail) head mail refl is part)
+
+  pub same_bodies_due : (words others : List (List ℕ)) (status : ℕ) (output : List ℕ) → Spells words (Open suite budget) → Spells others (Open suite limit)
+      → Due family words (head ++ mail) status output → Due family others (head ++ other) status output
+  same_bodies_due words others status output spelled spells (inl d) =
+      let command = one_command words d.command (Open suite budget) d.spelled spelled in
+      let ends = subst (λ (c : Command). EndsWith family c (head ++ mail) d.outcome) command d.ends_with in
+      inl (record {
+        command = Open suite limit;
+        spelled = spells;
+        outcome = d.outcome;
+        ends_with = whole_ends d.outcome (ends_as family (Open suite budget) (head ++ mail) d.outcome ends);
+        status_is = d.status_is;
+        output_is = d.output_is;
+      })
+  same_bodies_due words others status output spelled spells (inr d) = absurd (d.no_command (Open suite budget) spelled)
+
+-- ---- something is due
 
 -- what a whole input comes to is there
 some_comes : (family : Family) (command : Command) (text input rest : List ℕ) → text ≡ input ++ rest → IsInput command input → ((v : Verdict) → ComesTo family command text v → ⊥) → ⊥
 some_comes family (Open suite budget) text input rest whole (seed, info, is) none =
-    some_by_key (parameters suite.set) family (kdf_algorithm suite.kdf) (aead_algorithm suite.aead) open_of seed info rest budget (λ v opens. none v (input, seed, info, rest, whole, is, opens))
+    some_by_key (parameters suite.set) family (kdf_algorithm suite.kdf) (aead_algorithm suite.aead) (aead_open suite.aead) seed info rest budget (λ v opens. none v (input, seed, info, rest, whole, is, opens))
 some_comes family (Key set) text input rest whole (seed, is) none = none (key_verdict (key_of (parameters set) family seed)) (input, seed, rest, whole, is, refl)
+
+due_by : (family : Family) (words : List (List ℕ)) (text : List ℕ) (command : Command) (outcome : Outcome) → Spells words command → EndsWith family command text outcome → Due family words text (outcome_status outcome) (outcome_output outcome)
+due_by family words text command outcome spelled ends = inl (record { command = command; spelled = spelled; outcome = outcome; ends_with = ends; status_is = refl; output_is = refl })
 
 some_of_command : (family : Family) (words : List (List ℕ)) (text : List ℕ) (command : Command) → Spells words command → Stands (IsInput command) text
     → ((status : ℕ) (output : List ℕ) → Due family words text status output → ⊥) → ⊥
 some_of_command family words text command spelled (inl (input, rest, whole, is)) none =
-    some_comes family command text input rest whole is (λ v comes. none (verdict_status v) (verdict_output v) (inl (record {
-      command = command;
-      spelled = spelled;
-      verdict = v;
-      comes_to = comes;
-      status_is = refl;
-      output_is = refl;
-    })))
-some_of_command family words text command spelled (inr (inl (place, fails))) none =
-    none 3 (fault_line (codes "head") (place ∷ [])) (inr (inr (inl (record { command = command; spelled = spelled; place = place; fails = fails; status_is = refl; output_is = refl }))))
-some_of_command family words text command spelled (inr (inr part)) none =
-    none 3 (fault_line (codes "head ended") []) (inr (inr (inr (record { command = command; spelled = spelled; part = part; status_is = refl; output_is = refl }))))
+    some_comes family command text input rest whole is (λ v comes. none (outcome_status (of_verdict v)) (outcome_output (of_verdict v)) (due_by family words text command (of_verdict v) spelled (ends_verdict family command text v comes)))
+some_of_command family words text command spelled (inr (inl (place, fails))) none = none _ _ (due_by family words text command (Err (Place place)) spelled fails)
+some_of_command family words text command spelled (inr (inr part)) none = none _ _ (due_by family words text command (Err Ended) spelled part)
 
 pub some_due : (family : Family) (words : List (List ℕ)) (text : List ℕ) → ((status : ℕ) (output : List ℕ) → Due family words text status output → ⊥) → ⊥
-some_due family words text none = none 2 no_command_line (inr (inl (record {
+some_due family words text none = none 2 no_command_line (inr (record {
   no_command = λ command spelled. some_of_command family words text command spelled (some_input command text) none;
   status_is = refl;
   output_is = refl;
-})))
+}))

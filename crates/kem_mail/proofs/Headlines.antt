@@ -4,12 +4,13 @@ use Rattle.std.specs.Prelude.{IfSome}
 use Rattle.kem_hash.specs.Family.{Family}
 use Rattle.age_core.specs.Outside.{Gains}
 use Rattle.kem_mail.specs.Command.{Spells}
-use Rattle.kem_mail.specs.Due.{Due, ComesTo, HoldsMail, IsAnswer, verdict_output, verdict_status}
+use Rattle.kem_mail.specs.Due.{Due, ComesTo, EndsWith, HoldsMail, IsAnswer, Outcome, outcome_output, outcome_status}
 use Rattle.kem_mail.specs.Lines.{lines}
-use Rattle.kem_mail.specs.Mail.{Verdict}
 use Rattle.kem_mail.specs.declared.command.Command.{Command}
 use Rattle.kem_mail.specs.declared.command.Command.TheVariants.{Open}
 use Rattle.kem_mail.specs.declared.command.SuiteName.{SuiteName}
+use Rattle.kem_mail.specs.declared.error.MailError.TheVariants.{NoMemory, ReadFault}
+use Rattle.kem_mail.specs.declared.error.RunError.TheVariants.{Mail}
 use Rattle.kem_mail.proofs.Dues.{one_command, same_due}
 use Rattle.kem_mail.proofs.Tellings.{for_some}
 
@@ -20,21 +21,21 @@ for_both (Some text) P Q R h k f = f text h k
 
 module _ (family : Family) (words : List (List ℕ)) where
   -- status 0 is due for messages alone
-  items_of_verdict : (command : Command) (text : List ℕ) (v : Verdict) (output : List ℕ) → 0 ≡ verdict_status v → output ≡ verdict_output v → ComesTo family command text v
+  items_of_outcome : (command : Command) (text : List ℕ) (o : Outcome) (output : List ℕ) → 0 ≡ outcome_status o → output ≡ outcome_output o → EndsWith family command text o
       → (items : List (List ℕ)) × ComesTo family command text (Ok items) × (output ≡ lines items)
-  items_of_verdict command text (Ok items) output is told comes = (items, comes, told)
-  items_of_verdict command text (Err error) output is told comes = absurd (omega (arith, is))
+  items_of_outcome command text (Ok items) output is told ends = (items, ends, told)
+  items_of_outcome command text (Err (Mail NoMemory)) output is told ends = absurd (cc is)
+  items_of_outcome command text (Err (Mail ReadFault)) output is told ends = absurd (cc is)
+  items_of_outcome command text (Err error) output is told ends = absurd (cc is)
 
   module _ (suite : SuiteName) (budget : ℕ) (spelled : Spells words (Open suite budget)) where
     due_messages : (text : List ℕ) (status : ℕ) (output : List ℕ) → status ≡ 0 → Due family words text status output → (messages : List (List ℕ)) × HoldsMail family suite budget text messages × (output ≡ lines messages)
     due_messages text status output zero (inl d) =
-        items_of_verdict (Open suite budget) text d.verdict output (sym zero ∙ d.status_is) d.output_is (subst (λ (c : Command). ComesTo family c text d.verdict) (one_command words d.command (Open suite budget) d.spelled spelled) d.comes_to)
-    due_messages text status output zero (inr (inl d)) = absurd (let is = d.status_is in omega (arith, is, zero))
-    due_messages text status output zero (inr (inr (inl d))) = absurd (let is = d.status_is in omega (arith, is, zero))
-    due_messages text status output zero (inr (inr (inr d))) = absurd (let is = d.status_is in omega (arith, is, zero))
+        items_of_outcome (Open suite budget) text d.outcome output (sym zero ∙ d.status_is) d.output_is (subst (λ (c : Command). EndsWith family c text d.outcome) (one_command words d.command (Open suite budget) d.spelled spelled) d.ends_with)
+    due_messages text status output zero (inr d) = absurd (let is = d.status_is in omega (arith, is, zero))
 
     messages_due : (text : List ℕ) (messages : List (List ℕ)) → HoldsMail family suite budget text messages → Due family words text 0 (lines messages)
-    messages_due text messages holds = inl (record { command = Open suite budget; spelled = spelled; verdict = Ok messages; comes_to = holds; status_is = refl; output_is = refl })
+    messages_due text messages holds = inl (record { command = Open suite budget; spelled = spelled; outcome = Ok messages; ends_with = holds; status_is = refl; output_is = refl })
 
 module _ (family : Family) (words : List (List ℕ)) (left : Option (List ℕ)) (result : ℕ) (before now : Option (List ℕ)) where
   -- the clause of a run on what was written

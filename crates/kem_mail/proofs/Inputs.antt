@@ -11,13 +11,12 @@ use Rattle.kem_mail.specs.Input.{IsLine, IsLineText, IsHead, IsHeadText, IsPart,
 use Rattle.std.specs.Prelude.{IfSome, IfOk, IfErr}
 use Rattle.std.specs.Char.{is_ascii_hexdigit}
 use Rattle.kem_mail.specs.Due.{IsInput}
-use Rattle.kem_mail.specs.Taken.{Lost, StopsWithin}
-use Rattle.kem_mail.specs.Parts.{InputTaken, WantTaken, behind}
+use Rattle.kem_mail.specs.Taken.{Lost, StopsWithin, InputTakes}
+use Rattle.kem_mail.specs.private.InputParts.{InputTaken, behind}
 use Rattle.kem_mail.specs.declared.command.Command.{Command}
 use Rattle.kem_mail.specs.declared.command.Command.TheVariants.{Open, Key}
 use Rattle.kem_mail.specs.declared.error.RunError.{RunError}
 use Rattle.kem_mail.specs.declared.error.RunError.TheVariants.{Place, Ended, Mail}
-use Rattle.kem_mail.specs.declared.error.MailError.{MailError}
 use Rattle.kem_mail.specs.declared.error.MailError.TheVariants.{NoMemory, ReadFault}
 
 -- ---- digits
@@ -260,15 +259,15 @@ module _ (before mid now : Option (List ℕ)) (least most : ℕ) (ds : List ℕ)
       let here = subst (IsPart (IsLineText least most)) whole part in
       elim refused [
         | inl ended ↦ rw ended here
-        | inr failed ↦ rw failed here
+        | inr failed ↦ rw failed (inr (refl, here))
       ])
 
   -- memory ran out behind this byte
   pub line_memory : (b : ℕ) → Lost before mid (λ bytes. bytes ≡ ds) → Lost mid now (λ bytes. bytes ≡ b ∷ [])
-      → Lost before now (StopsWithin (IsLineText least most))
+      → Lost before now (InputTakes (IsLineText least most) (Mail NoMemory))
   line_memory b l r =
-      Lost_then before mid now (λ bytes. bytes ≡ ds) (λ bytes. bytes ≡ b ∷ []) (StopsWithin (IsLineText least most)) l r (λ a c p q.
-      rw (p, q) (StopsWithin-push (IsLineText least most) ds b part))
+      Lost_then before mid now (λ bytes. bytes ≡ ds) (λ bytes. bytes ≡ b ∷ []) (InputTakes (IsLineText least most) (Mail NoMemory)) l r (λ a c p q.
+      rw (p, q) (inl (refl, StopsWithin-push (IsLineText least most) ds b part)))
 
   -- this byte can't stand there
   pub line_fails : (b : ℕ) → Lost before mid (λ bytes. bytes ≡ ds) → Lost mid now (λ bytes. bytes ≡ b ∷ [])
@@ -431,27 +430,19 @@ StopsWithin-second first text line stops n lt =
 
 -- ---- what was taken of a head
 
-want_first : (error : MailError) (bytes : List ℕ) → WantTaken IsFirst error bytes → WantTaken IsHeadText error bytes
-want_first NoMemory bytes w = λ n lt. IsPart-first (take n bytes) (w n lt)
-want_first ReadFault bytes w = IsPart-first bytes w
-want_first error bytes w = absurd w
-
-want_second : (error : MailError) (first bytes : List ℕ) → IsFirst first → WantTaken IsSecond error bytes → WantTaken IsHeadText error (first ++ bytes)
-want_second NoMemory first bytes line w = StopsWithin-second first bytes line w
-want_second ReadFault first bytes line w = IsPart-second first bytes line w
-want_second error first bytes line w = absurd w
-
 module _ (X Y : Type 0) (Holds : List ℕ → X → Type 0) (Heads : List ℕ → Y → Type 0) where
   taken_first : (e : RunError) (bytes : List ℕ) → InputTaken IsFirst Holds (Err e) bytes → InputTaken IsHeadText Heads (Err e) bytes
   taken_first (Place place) bytes t = (t.0, FailsAt-first bytes place t.1)
   taken_first Ended bytes t = IsPart-first bytes t
-  taken_first (Mail error) bytes t = want_first error bytes t
+  taken_first (Mail error) bytes (inl (e, stops)) = inl (e, λ n lt. IsPart-first (take n bytes) (stops n lt))
+  taken_first (Mail error) bytes (inr (e, part)) = inr (e, IsPart-first bytes part)
 
   taken_second : (e : RunError) (first bytes : List ℕ) → IsFirst first → InputTaken IsSecond Holds (Err e) bytes → InputTaken IsHeadText Heads (Err (behind 129 e)) (first ++ bytes)
   taken_second (Place place) first bytes line t =
       (omega (arith, t.0, length-append first bytes, length-first first line.0 line.1), FailsAt-second first bytes place line t.1)
   taken_second Ended first bytes line t = IsPart-second first bytes line t
-  taken_second (Mail error) first bytes line t = want_second error first bytes line t
+  taken_second (Mail error) first bytes line (inl (e, stops)) = inl (e, StopsWithin-second first bytes line stops)
+  taken_second (Mail error) first bytes line (inr (e, part)) = inr (e, IsPart-second first bytes line part)
 
   -- the first line is refused
   pub lost_first : (before now : Option (List ℕ)) (e : RunError) → Lost before now (InputTaken IsFirst Holds (Err e)) → Lost before now (InputTaken IsHeadText Heads (Err e))

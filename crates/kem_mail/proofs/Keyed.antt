@@ -15,7 +15,7 @@ use Rattle.hpke.specs.Schedule.{KdfAlgorithm, AeadAlgorithm, suite_of}
 use Rattle.hpke.specs.Lattice.{lattice_kem_id, lattice_decap}
 use Rattle.kem_mail.specs.Mail.{IsVerdict, OpenMeaning, Opens, OpensByKey, Verdict, opener_of}
 use Rattle.kem_mail.specs.Taken.{IsTaken, IsShortBehindDone, Lost}
-use Rattle.kem_mail.specs.Parts.{of_kem}
+use Rattle.kem_mail.specs.Causes.{of_kem}
 use Rattle.kem_mail.specs.declared.error.MailError.TheVariants.{NoMemory}
 
 -- ---- without a key nothing is taken

@@ -1,5 +1,5 @@
 -- What was taken of a source for the stanzas of a mail.
-use Rattle.std.proofs.Common.{◌≡◌, ◌≢◌, ℕ, ◌+◌, ◌<◌, ◌≤◌, List, [], ◌∷◌, ◌++◌, length, Option, Some, None, refl, sym, ap, subst, ◌∙◌, append_assoc, inl, inr, arith}
+use Rattle.std.proofs.Common.{◌≡◌, ◌≢◌, ℕ, ◌+◌, ◌<◌, ◌≤◌, List, [], ◌∷◌, ◌++◌, length, Option, Some, None, refl, sym, ap, subst, ◌∙◌, append_assoc, ◌⊎◌, inl, inr, arith}
 use Rattle.std.specs.Prelude.{IfSome, Result, Ok, Err, codes}
 use Rattle.std.specs.List.{flat_map, AllByRecursion}
 use Rattle.std.proofs.lemmas.Bool.{cases_lt}
@@ -13,9 +13,10 @@ use Rattle.age_core.specs.declared.plugin.PhaseError.{PhaseError}
 use Rattle.age_core.specs.declared.plugin.PhaseError.TheVariants.{NoMemory as PhaseNoMemory, ReadFault as PhaseReadFault, InvalidData as PhaseInvalidData, UnexpectedEof as PhaseUnexpectedEof, TooMuch as PhaseTooMuch}
 use Rattle.age_core.proofs.Stanzas.{the_same_stanza}
 use Rattle.age_core.proofs.Commands.{none_done-push}
-use Rattle.age_core.proofs.Receipts.{front_begins_none, receives_none, receives_both, reads_done, reads_invalid, reads_ended, reads_spent}
+use Rattle.age_core.proofs.Receipts.{front_begins_none, receives_none, receives_both, receives_unpaid, reads_done, reads_invalid, reads_ended, reads_spent}
 use Rattle.kem_mail.specs.Taken.{Lost, IsShortBehindDone, StoppedBy}
-use Rattle.kem_mail.specs.Parts.{IsRead, ReadTaken, of_phase}
+use Rattle.kem_mail.specs.Causes.{of_phase}
+use Rattle.kem_mail.specs.private.Opening.{IsRead, IsRefusedFor, ReadTaken}
 use Rattle.kem_mail.specs.declared.error.MailError.{MailError}
 use Rattle.kem_mail.specs.declared.error.MailError.TheVariants.{NoMemory, ReadFault, UnexpectedEof}
 
@@ -108,6 +109,12 @@ module _ (before now : Held) (text : List ℕ) (m : Option (List ℕ)) (stanzas 
         behind none stanza rest is e
     | inr le ↦ le
   ]
+
+-- few bytes are held behind a stanza that had to be read
+pub few_behind : {S : Type 0} (before now : Held) (old new : S) (l m : Option (List ℕ)) (s : Stanza) → Receives before now l m (s ∷ []) → ((new ≡ old) × (now.budget ≡ before.budget)) ⊎ (length now.bytes ≤ 4095)
+    → BeginsNone before.bytes → length now.bytes ≤ 4095
+few_behind before now old new l m s r (inl unread) none = absurd (none s now.bytes r.each.0 (receives_unpaid before now l m s r unread.1))
+few_behind before now old new l m s r (inr few) none = few
 
 -- ---- while stanzas are given
 
@@ -230,9 +237,9 @@ at_left {P} l m text taken told p = subst (λ (o : Option (List ℕ)). IfSome o 
 from_fresh : (text : List ℕ) (budget : ℕ) (reading : Reading) → Reads text (budget + 0) reading → Reads text budget reading
 from_fresh text budget reading h = let same : budget + 0 ≡ budget = omega arith in subst (λ (n : ℕ). Reads text n reading) same h
 
-module _ {X : Type 0} (view : X → List Stanza) (budget : ℕ) (next : Held) (m n : Option (List ℕ)) (stanzas : List Stanza) where
+module _ (budget : ℕ) (next : Held) (m n : Option (List ℕ)) (stanzas : List Stanza) where
   refused_reads : (text : List ℕ) (phase : PhaseError) → Receives (fresh budget) next (Some text) n stanzas → NoneDone stanzas
-      → (phase ≡ PhaseUnexpectedEof → n ≡ Some []) → Refused phase next m n → IsRead view text budget (Err (of_phase phase))
+      → (phase ≡ PhaseUnexpectedEof → n ≡ Some []) → Refused phase next m n → IsRefusedFor phase text budget
   refused_reads text PhaseNoMemory r none ended refused = tt
   refused_reads text PhaseReadFault r none ended refused = tt
   refused_reads text PhaseInvalidData r none ended refused = from_fresh text budget Invalid_data (reads_invalid (fresh budget) next text n stanzas r none (refused.invalid_data refl))
@@ -248,12 +255,16 @@ pub read_refused : {X : Type 0} (view : X → List Stanza) (budget : ℕ) (now n
 read_refused view budget now next None m n stanzas phase result is given kept refused = tt
 read_refused view budget now next (Some text) m n stanzas phase result is given kept refused =
     let r = joined budget now next (Some text) m n stanzas given.received kept in
-    rw is (refused_reads view budget next m n stanzas text phase r given.none_done
-    (λ eof. at_left (Some text) m text given.received.taken given.received.told (refused.unexpected_eof eof).2) refused)
+    rw is (
+      phase,
+      refl,
+      refused_reads budget next m n stanzas text phase r given.none_done
+          (λ eof. at_left (Some text) m text given.received.taken given.received.told (refused.unexpected_eof eof).2) refused,
+    )
 
 pub read_unheld : {X : Type 0} (view : X → List Stanza) (budget : ℕ) (l : Option (List ℕ)) (result : Result X MailError) → result ≡ Err NoMemory → IfSome l (λ text. IsRead view text budget result)
 read_unheld view budget None result is = tt
-read_unheld view budget (Some text) result is = rw is tt
+read_unheld view budget (Some text) result is = rw is (PhaseNoMemory, refl, tt)
 
 ended_phase : (phase : PhaseError) → of_phase phase ≡ UnexpectedEof → phase ≡ PhaseUnexpectedEof
 ended_phase PhaseNoMemory e = absurd cc

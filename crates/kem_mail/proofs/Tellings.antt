@@ -1,17 +1,17 @@
 -- What a run told is what is due.
-use Rattle.std.proofs.Common.{◌≡◌, ◌≢◌, ◌⊎◌, ℕ, List, [], ◌∷◌, Option, Some, None, Ok, Err, refl, sym, subst, ◌∙◌, inl, inr, arith}
-use Rattle.std.specs.Prelude.{IfSome, codes}
+use Rattle.std.proofs.Common.{◌≡◌, ◌≢◌, ◌⊎◌, ℕ, List, [], ◌≤◌, Option, Some, None, Ok, Err, refl, sym, ap, subst, ◌∙◌, inl, inr, arith}
+use Rattle.std.specs.Prelude.{IfSome}
 use Rattle.kem_hash.specs.Family.{Family}
-use Rattle.age_core.specs.Outside.{Rose, Gains, GainsPart}
+use Rattle.age_core.specs.Outside.{Rose, Gains, GainsPart, Wrote, WrotePart}
 use Rattle.kem_mail.specs.Command.{Spells}
-use Rattle.kem_mail.specs.Due.{Due, ComesTo, IsAnswer, no_command_line}
-use Rattle.kem_mail.specs.Lines.{lines, fault_line, error_line}
-use Rattle.kem_mail.specs.Parts.{IsRefused, IsTold, RunComes}
+use Rattle.kem_mail.specs.Due.{Due, IsAnswer, Outcome, outcome_output, outcome_status}
+use Rattle.kem_mail.specs.Lines.{error_line, no_command_line}
+use Rattle.kem_mail.specs.Taken.{Lost, Takes}
+use Rattle.kem_mail.specs.Run.{CameTo, IsTold}
 use Rattle.kem_mail.specs.declared.command.Command.{Command}
-use Rattle.kem_mail.specs.declared.error.MailError.{MailError}
-use Rattle.kem_mail.specs.declared.error.MailError.TheVariants.{NoMemory, XofExhausted, ReadFault, InvalidData, UnexpectedEof, TooMuch, NotOneKem, IncorrectInputLength, OpenError}
+use Rattle.kem_mail.specs.declared.error.MailError.TheVariants.{NoMemory, ReadFault}
 use Rattle.kem_mail.specs.declared.error.RunError.{RunError}
-use Rattle.kem_mail.specs.declared.error.RunError.TheVariants.{Place, Ended, Mail}
+use Rattle.kem_mail.specs.declared.error.RunError.TheVariants.{Mail}
 use Rattle.kem_mail.proofs.Dues.{same_due}
 
 -- where a source tells its bytes, another thing holds of them
@@ -28,109 +28,161 @@ not_five result (inl e) f = omega (arith, e, f)
 not_five result (inr (inl e)) f = omega (arith, e, f)
 not_five result (inr (inr e)) f = omega (arith, e, f)
 
-not_four_or_six : (result : ℕ) → IsAnswer result → (result ≡ 4) ⊎ (result ≡ 6) → ⊥
-not_four_or_six result (inl e) (inl f) = omega (arith, e, f)
-not_four_or_six result (inl e) (inr f) = omega (arith, e, f)
-not_four_or_six result (inr (inl e)) (inl f) = omega (arith, e, f)
-not_four_or_six result (inr (inl e)) (inr f) = omega (arith, e, f)
-not_four_or_six result (inr (inr e)) (inl f) = omega (arith, e, f)
-not_four_or_six result (inr (inr e)) (inr f) = omega (arith, e, f)
+-- ---- the status of an outcome
 
-module _ (family : Family) (words : List (List ℕ)) (text : List ℕ) (result fb fn : ℕ) (before now : Option (List ℕ)) where
-  -- the three clauses on what was written
-  abbrev pub IsAnswered : Type 0
-  IsAnswered = IsAnswer result → (output : List ℕ) × Due family words text result output × Gains before now output
+never_two : (o : Outcome) → outcome_status o ≢ 2
+never_two (Ok items) e = cc e
+never_two (Err (Mail NoMemory)) e = cc e
+never_two (Err (Mail ReadFault)) e = cc e
+never_two (Err error) e = cc e
 
-  abbrev pub IsPartOf : Type 0
-  IsPartOf = result ≡ 5 → (status : ℕ) × (output : List ℕ) × Due family words text status output × GainsPart before now output
+pub never_five : (o : Outcome) → outcome_status o ≢ 5
+never_five (Ok items) e = cc e
+never_five (Err (Mail NoMemory)) e = cc e
+never_five (Err (Mail ReadFault)) e = cc e
+never_five (Err error) e = cc e
 
-  abbrev pub IsComplete : Type 0 → Type 0
-  IsComplete source_rose = (status : ℕ) (output : List ℕ) → Due family words text status output → (source_rose → ⊥) → (Rose fb fn → ⊥) → (result ≡ status) ⊎ (result ≡ 6)
+four_is : (o : Outcome) → outcome_status o ≡ 4 → o ≡ Err (Mail ReadFault)
+four_is (Ok items) e = absurd (cc e)
+four_is (Err (Mail NoMemory)) e = absurd (cc e)
+four_is (Err (Mail ReadFault)) e = refl
+four_is (Err error) e = absurd (cc e)
 
-  module _ (status : ℕ) (line : List ℕ) (due : Due family words text status line) where
-    told_answered : IsTold result status fb fn before now line → IsAnswered
-    told_answered (inl (is, gains)) answer = (line, subst (λ (s : ℕ). Due family words text s line) (sym is) due, gains)
-    told_answered (inr (five, rose, part)) answer = absurd (not_five result answer five)
+six_is : (o : Outcome) → outcome_status o ≡ 6 → o ≡ Err (Mail NoMemory)
+six_is (Ok items) e = absurd (cc e)
+six_is (Err (Mail NoMemory)) e = refl
+six_is (Err (Mail ReadFault)) e = absurd (cc e)
+six_is (Err error) e = absurd (cc e)
 
-    told_part : status ≢ 5 → IsTold result status fb fn before now line → IsPartOf
-    told_part other (inl (is, gains)) five = absurd (other (sym is ∙ five))
-    told_part other (inr (is, rose, part)) five = (status, line, due, part)
+three_is : (o : Outcome) → outcome_status o ≡ 3 → (error : RunError) × (outcome_status (Err error) ≡ 3) × (outcome_output o ≡ error_line error)
+three_is (Ok items) e = absurd (cc e)
+three_is (Err error) e = (error, e, refl)
 
-    told_complete : (source_rose : Type 0) → IsTold result status fb fn before now line → IsComplete source_rose
-    told_complete source_rose (inl (is, gains)) s output d a b = inl (is ∙ (same_due family words text status s line output due d).0)
-    told_complete source_rose (inr (is, rose, part)) s output d a b = absurd (b rose)
+-- an answer, a fault of the source, or want of memory
+pub kinds : (o : Outcome) → IsAnswer (outcome_status o) ⊎ ((o ≡ Err (Mail ReadFault)) ⊎ (o ≡ Err (Mail NoMemory)))
+kinds (Ok items) = inl (inl refl)
+kinds (Err (Mail NoMemory)) = inr (inr refl)
+kinds (Err (Mail ReadFault)) = inr (inl refl)
+kinds (Err error) = inl (inr (inr refl))
 
-  -- nothing is told, or the line that is due
-  abbrev IsSilentOrTold : RunError → Type 0
-  IsSilentOrTold e = (result ≡ 6) ⊎ (((result ≡ 4) × (e ≡ Mail ReadFault)) ⊎ ((line : List ℕ) × Due family words text 3 line × IsTold result 3 fb fn before now line))
+-- ---- any status and output that were told
 
-  module _ (command : Command) (spelled : Spells words command) where
-    error_due : (e : MailError) → ComesTo family command text (Err e) → Due family words text 3 (error_line e)
-    error_due e comes = inl (record { command = command; spelled = spelled; verdict = Err e; comes_to = comes; status_is = refl; output_is = refl })
+module _ {W : Type 0} (got : W → Option (List ℕ)) (faults : W → ℕ) (plan : W → List ℕ) (before now : W) (result status : ℕ) (output : List ℕ) (told : IsTold got faults plan before now result status output) where
+  pub told_all : result ≢ 5 → (result ≡ status) × Wrote got faults plan before now output
+  told_all other = elim told [ inl all ↦ all | inr part ↦ absurd (other part.0) ]
 
-    silent_or_told : (e : RunError) → RunComes family command text (Err e) → IsRefused e result fb fn before now → IsSilentOrTold e
-    silent_or_told (Place place) comes told =
-        inr (inr (fault_line (codes "head") (place ∷ []), inr (inr (inl (record { command = command; spelled = spelled; place = place; fails = comes; status_is = refl; output_is = refl }))), told))
-    silent_or_told Ended comes told =
-        inr (inr (fault_line (codes "head ended") [], inr (inr (inr (record { command = command; spelled = spelled; part = comes; status_is = refl; output_is = refl }))), told))
-    silent_or_told (Mail NoMemory) comes told = inl told.0
-    silent_or_told (Mail ReadFault) comes told = inr (inl (told.0, refl))
-    silent_or_told (Mail XofExhausted) comes told = inr (inr (error_line XofExhausted, error_due XofExhausted (comes tt), told))
-    silent_or_told (Mail InvalidData) comes told = inr (inr (error_line InvalidData, error_due InvalidData (comes tt), told))
-    silent_or_told (Mail UnexpectedEof) comes told = inr (inr (error_line UnexpectedEof, error_due UnexpectedEof (comes tt), told))
-    silent_or_told (Mail TooMuch) comes told = inr (inr (error_line TooMuch, error_due TooMuch (comes tt), told))
-    silent_or_told (Mail (NotOneKem count)) comes told = inr (inr (error_line (NotOneKem count), error_due (NotOneKem count) (comes tt), told))
-    silent_or_told (Mail (IncorrectInputLength expected given)) comes told =
-        inr (inr (error_line (IncorrectInputLength expected given), error_due (IncorrectInputLength expected given) (comes tt), told))
-    silent_or_told (Mail (OpenError number)) comes told = inr (inr (error_line (OpenError number), error_due (OpenError number) (comes tt), told))
+  pub told_part : status ≢ 5 → result ≡ 5 → IsAnswer status × WrotePart got faults plan before now output
+  told_part other five = elim told [ inl all ↦ absurd (other (sym all.0 ∙ five)) | inr part ↦ (part.1, part.2) ]
 
-  silent_answered : (e : RunError) → IsSilentOrTold e → IsAnswered
-  silent_answered e (inl six) answer = absurd (not_four_or_six result answer (inr six))
-  silent_answered e (inr (inl four)) answer = absurd (not_four_or_six result answer (inl four.0))
-  silent_answered e (inr (inr (line, due, told))) answer = told_answered 3 line due told answer
+  pub told_fault : status ≢ 5 → result ≡ 5 → Rose (faults before) (faults now)
+  told_fault other five = (told_part other five).1.fault
 
-  silent_part : (e : RunError) → IsSilentOrTold e → IsPartOf
-  silent_part e (inl six) five = absurd (omega (arith, six, five))
-  silent_part e (inr (inl four)) five = absurd (let is = four.0 in omega (arith, is, five))
-  silent_part e (inr (inr (line, due, told))) five = told_part 3 line due (λ e. omega (arith, e)) told five
+  pub told_no_fault : result ≢ 5 → faults now ≡ faults before
+  told_no_fault other = (told_all other).1.no_fault
 
-  silent_complete : (source_rose : Type 0) (e : RunError) → (e ≡ Mail ReadFault → source_rose) → IsSilentOrTold e → IsComplete source_rose
-  silent_complete source_rose e rises (inl six) status output due a b = inr six
-  silent_complete source_rose e rises (inr (inl four)) status output due a b = absurd (a (rises four.1))
-  silent_complete source_rose e rises (inr (inr (line, d, told))) status output due a b = told_complete 3 line d source_rose told status output due a b
+  pub told_counts : faults before ≤ faults now
+  told_counts = elim told [ inl all ↦ (let same = all.1.no_fault in omega (arith, same)) | inr part ↦ part.2.no_fall ]
 
-  no_command_due : ((command : Command) → Spells words command → ⊥) → Due family words text 2 no_command_line
-  no_command_due none = inr (inl (record { no_command = none; status_is = refl; output_is = refl }))
+  pub told_plan : plan now ≡ plan before
+  told_plan = elim told [ inl all ↦ all.1.same_plan | inr part ↦ part.2.same_plan ]
 
-  items_due : (command : Command) (items : List (List ℕ)) → Spells words command → ComesTo family command text (Ok items) → Due family words text 0 (lines items)
-  items_due command items spelled comes = inl (record { command = command; spelled = spelled; verdict = Ok items; comes_to = comes; status_is = refl; output_is = refl })
+  pub told_status : (result ≡ status) ⊎ (result ≡ 5)
+  told_status = elim told [ inl all ↦ inl all.0 | inr part ↦ inr part.0 ]
 
--- ---- where the source tells its bytes
+  module _ (family : Family) (words : List (List ℕ)) (left : Option (List ℕ)) (owed : IfSome left (λ text. IsAnswer status → Due family words text status output)) where
+    pub told_answered : IfSome left (λ text. IsAnswer result → (written : List ℕ) × Due family words text result written × Gains (got before) (got now) written)
+    told_answered = for_some left _ (λ text. IsAnswer result → (written : List ℕ) × Due family words text result written × Gains (got before) (got now) written) owed (λ text due answer.
+        let all = told_all (not_five result answer) in
+        (output, subst (λ (s : ℕ). Due family words text s output) (sym all.0) (due (subst IsAnswer all.0 answer)), all.1.gained))
 
-module _ (family : Family) (words : List (List ℕ)) (left : Option (List ℕ)) (result fb fn : ℕ) (before now : Option (List ℕ)) where
-  pub no_command_part : ((command : Command) → Spells words command → ⊥) → IsTold result 2 fb fn before now no_command_line → IfSome left (λ text. IsPartOf family words text result fb fn before now)
-  no_command_part none told =
-      for_each left (λ text. IsPartOf family words text result fb fn before now) (λ text. told_part family words text result fb fn before now 2 no_command_line (no_command_due family words text result fb fn before now none) (λ e. omega (arith, e)) told)
+    pub told_write_part : status ≢ 5 → IfSome left (λ text. result ≡ 5 → (s : ℕ) × (written : List ℕ) × Due family words text s written × GainsPart (got before) (got now) written)
+    told_write_part other = for_some left _ (λ text. result ≡ 5 → (s : ℕ) × (written : List ℕ) × Due family words text s written × GainsPart (got before) (got now) written) owed (λ text due five.
+        let part = told_part other five in (status, output, due part.0, part.1.gained))
 
-  module _ (command : Command) (spelled : Spells words command) where
-    pub items_part : (items : List (List ℕ)) → IfSome left (λ text. RunComes family command text (Ok items)) → IsTold result 0 fb fn before now (lines items) → IfSome left (λ text. IsPartOf family words text result fb fn before now)
-    items_part items comes told = for_some left (λ text. RunComes family command text (Ok items)) (λ text. IsPartOf family words text result fb fn before now) comes (λ text c.
-        told_part family words text result fb fn before now 0 (lines items) (items_due family words text result fb fn before now command items spelled c) (λ e. omega (arith, e)) told)
+    told_complete_as : (text : List ℕ) (rose : Type 0) → (IsAnswer status → Due family words text status output) → IsAnswer status ⊎ (rose ⊎ (status ≡ 6)) → (s : ℕ) (written : List ℕ) → Due family words text s written
+        → (rose → ⊥) → result ≡ status → (result ≡ s) ⊎ (result ≡ 6)
+    told_complete_as text rose due (inl answer) s written d calm is = inl (is ∙ (same_due family words text status s output written (due answer) d).0)
+    told_complete_as text rose due (inr (inl rises)) s written d calm is = absurd (calm rises)
+    told_complete_as text rose due (inr (inr six)) s written d calm is = inr (is ∙ six)
 
-    pub items_complete : (source_rose : Type 0) (items : List (List ℕ)) → IfSome left (λ text. RunComes family command text (Ok items)) → IsTold result 0 fb fn before now (lines items)
-        → IfSome left (λ text. IsComplete family words text result fb fn before now source_rose)
-    items_complete source_rose items comes told = for_some left (λ text. RunComes family command text (Ok items)) (λ text. IsComplete family words text result fb fn before now source_rose) comes (λ text c.
-        told_complete family words text result fb fn before now 0 (lines items) (items_due family words text result fb fn before now command items spelled c) source_rose told)
+    pub told_complete : (rose : Type 0) → status ≢ 5 → IsAnswer status ⊎ (rose ⊎ (status ≡ 6))
+        → IfSome left (λ text. (s : ℕ) (written : List ℕ) → Due family words text s written → (rose → ⊥) → (Rose (faults before) (faults now) → ⊥) → (result ≡ s) ⊎ (result ≡ 6))
+    told_complete rose other kind = for_some left _ (λ text. (s : ℕ) (written : List ℕ) → Due family words text s written → (rose → ⊥) → (Rose (faults before) (faults now) → ⊥) → (result ≡ s) ⊎ (result ≡ 6)) owed (λ text due s written d calm quiet.
+        elim told [
+          | inl all ↦ told_complete_as text rose due kind s written d calm all.0
+          | inr part ↦ absurd (quiet part.2.fault)
+        ])
 
-    pub refused_answered : (e : RunError) → IfSome left (λ text. RunComes family command text (Err e)) → IsRefused e result fb fn before now → IfSome left (λ text. IsAnswered family words text result fb fn before now)
-    refused_answered e comes told = for_some left (λ text. RunComes family command text (Err e)) (λ text. IsAnswered family words text result fb fn before now) comes (λ text c.
-        silent_answered family words text result fb fn before now e (silent_or_told family words text result fb fn before now command spelled e c told))
+-- ---- words that spell no command
 
-    pub refused_part : (e : RunError) → IfSome left (λ text. RunComes family command text (Err e)) → IsRefused e result fb fn before now → IfSome left (λ text. IsPartOf family words text result fb fn before now)
-    refused_part e comes told = for_some left (λ text. RunComes family command text (Err e)) (λ text. IsPartOf family words text result fb fn before now) comes (λ text c.
-        silent_part family words text result fb fn before now e (silent_or_told family words text result fb fn before now command spelled e c told))
+pub no_command_owed : (family : Family) (words : List (List ℕ)) (left : Option (List ℕ)) → ((command : Command) → Spells words command → ⊥) → IfSome left (λ text. IsAnswer 2 → Due family words text 2 no_command_line)
+no_command_owed family words left none = for_each left (λ text. IsAnswer 2 → Due family words text 2 no_command_line) (λ text answer. inr (record { no_command = none; status_is = refl; output_is = refl }))
 
-    pub refused_complete : (source_rose : Type 0) (e : RunError) → (e ≡ Mail ReadFault → source_rose) → IfSome left (λ text. RunComes family command text (Err e)) → IsRefused e result fb fn before now
-        → IfSome left (λ text. IsComplete family words text result fb fn before now source_rose)
-    refused_complete source_rose e rises comes told = for_some left (λ text. RunComes family command text (Err e)) (λ text. IsComplete family words text result fb fn before now source_rose) comes (λ text c.
-        silent_complete family words text result fb fn before now source_rose e rises (silent_or_told family words text result fb fn before now command spelled e c told))
+-- ---- a command
+
+module _ (family : Family) (words : List (List ℕ)) (left left_now : Option (List ℕ)) (sf sn : ℕ) (command : Command) (spelled : Spells words command) (outcome : Outcome) (came : CameTo family command left left_now sf sn outcome) where
+  pub command_owed : IfSome left (λ text. IsAnswer (outcome_status outcome) → Due family words text (outcome_status outcome) (outcome_output outcome))
+  command_owed = for_some left _ (λ text. IsAnswer (outcome_status outcome) → Due family words text (outcome_status outcome) (outcome_output outcome)) came.ends_with (λ text ends answer.
+      inl (record { command = command; spelled = spelled; outcome = outcome; ends_with = ends answer; status_is = refl; output_is = refl }))
+
+  pub command_kind : IsAnswer (outcome_status outcome) ⊎ (Rose sf sn ⊎ (outcome_status outcome ≡ 6))
+  command_kind = elim (kinds outcome) [
+    | inl answer ↦ inl answer
+    | inr silent ↦ elim silent [
+      | inl fault ↦ inr (inl (came.read_fault fault))
+      | inr memory ↦ inr (inr (ap outcome_status memory))
+    ]
+  ]
+
+  module _ {W : Type 0} (got : W → Option (List ℕ)) (faults : W → ℕ) (plan : W → List ℕ) (before now : W) (result : ℕ) (told : IsTold got faults plan before now result (outcome_status outcome) (outcome_output outcome)) where
+    all_told : (n : ℕ) → n ≢ 5 → result ≡ n → (outcome_status outcome ≡ n) × Gains (got before) (got now) (outcome_output outcome)
+    all_told n other is = let all = told_all got faults plan before now result (outcome_status outcome) (outcome_output outcome) told (λ five. other (sym is ∙ five)) in (sym all.0 ∙ is, all.1.gained)
+
+    pub fault_told : result ≡ 3 → (error : RunError) × (outcome_status (Err error) ≡ 3) × Gains (got before) (got now) (error_line error)
+    fault_told is =
+        let all = all_told 3 (λ e. cc e) is in
+        let three = three_is outcome all.0 in
+        (three.0, three.1, subst (Gains (got before) (got now)) three.2 all.1)
+
+    four_outcome : result ≡ 4 → outcome ≡ Err (Mail ReadFault)
+    four_outcome is = four_is outcome (all_told 4 (λ e. cc e) is).0
+
+    pub read_fault : result ≡ 4 → Rose sf sn × Gains (got before) (got now) []
+    read_fault is = let fault = four_outcome is in (came.read_fault fault, subst (λ (o : Outcome). Gains (got before) (got now) (outcome_output o)) fault (all_told 4 (λ e. cc e) is).1)
+
+    fault_four : outcome ≡ Err (Mail ReadFault) → result ≡ 4
+    fault_four fault = elim told [
+      | inl all ↦ all.0 ∙ ap outcome_status fault
+      | inr part ↦ absurd (no_answer (subst (λ (o : Outcome). IsAnswer (outcome_status o)) fault part.1))
+    ]
+      where
+        no_answer : IsAnswer 4 → ⊥
+        no_answer (inl e) = cc e
+        no_answer (inr (inl e)) = cc e
+        no_answer (inr (inr e)) = cc e
+
+    pub no_read_fault : result ≢ 4 → sn ≡ sf
+    no_read_fault other = came.no_fault (λ fault. other (fault_four fault))
+
+    pub read_part : result ≡ 4 → (it : Command) × Spells words it × Lost left left_now (Takes family it (Err (Mail ReadFault)))
+    read_part is = (command, spelled, subst (λ (o : Outcome). Lost left left_now (Takes family command o)) (four_outcome is) came.took)
+
+    pub memory : result ≡ 6 → Gains (got before) (got now) []
+    memory is =
+        let all = all_told 6 (λ e. cc e) is in
+        subst (λ (o : Outcome). Gains (got before) (got now) (outcome_output o)) (six_is outcome all.0) all.1
+
+    pub not_two : result ≢ 2
+    not_two is = never_two outcome (all_told 2 (λ e. cc e) is).0
+
+    pub no_other : IsAnswer result ⊎ ((result ≡ 4) ⊎ ((result ≡ 5) ⊎ (result ≡ 6)))
+    no_other = elim told [
+      | inr part ↦ inr (inr (inl part.0))
+      | inl all ↦ elim (kinds outcome) [
+        | inl answer ↦ inl (subst IsAnswer (sym all.0) answer)
+        | inr silent ↦ elim silent [
+          | inl fault ↦ inr (inl (all.0 ∙ ap outcome_status fault))
+          | inr wanted ↦ inr (inr (inr (all.0 ∙ ap outcome_status wanted)))
+        ]
+      ]
+    ]

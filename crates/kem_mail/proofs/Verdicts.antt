@@ -7,26 +7,25 @@ use Rattle.age_core.specs.declared.plugin.PhaseError.{PhaseError}
 use Rattle.age_core.specs.declared.plugin.PhaseError.TheVariants.{NoMemory as PhaseNoMemory, ReadFault as PhaseReadFault, InvalidData as PhaseInvalidData, UnexpectedEof as PhaseUnexpectedEof, TooMuch as PhaseTooMuch}
 use Rattle.age_core.proofs.Readings.{same_reading, some_reading}
 use Rattle.hpke.specs.Schedule.{Context}
-use Rattle.kem_mail.specs.Mail.{Verdict, IsVerdict, Opener, Opens, bodies, with_first, open_at, opened, opened_with, judged_bodies, judged}
+use Rattle.kem_mail.specs.Mail.{Verdict, IsVerdict, Opener, Opens, SameBodies, bodies, with_first, open_at, opened, opened_with, judged_bodies, judged}
 use Rattle.kem_mail.specs.Taken.{Lost, HoldsDone, StoppedBy, IsTaken}
-use Rattle.kem_mail.specs.Parts.{IsRead, Judges, ReadTaken, of_phase}
+use Rattle.kem_mail.specs.Causes.{of_phase}
+use Rattle.kem_mail.specs.private.Answers.{Judges}
+use Rattle.kem_mail.specs.private.Opening.{IsRead, IsRefusedFor, ReadTaken}
 use Rattle.kem_mail.specs.declared.error.MailError.{MailError}
-use Rattle.kem_mail.specs.declared.error.MailError.TheVariants.{NoMemory, ReadFault, XofExhausted, InvalidData, UnexpectedEof, TooMuch, NotOneKem, IncorrectInputLength, OpenError}
+use Rattle.kem_mail.specs.declared.error.MailError.TheVariants.{NoMemory, ReadFault, XofExhausted, InvalidData, UnexpectedEof, TooMuch, IncorrectInputLength, OpenError}
 
 -- ---- what bodies come to
 
 -- what bodies come to where there is a context
 abbrev pub IsJudged : Verdict → Type 0
-IsJudged (Ok messages) = Unit {0}
 IsJudged (Err NoMemory) = ⊥
 IsJudged (Err ReadFault) = ⊥
 IsJudged (Err XofExhausted) = ⊥
 IsJudged (Err InvalidData) = ⊥
 IsJudged (Err UnexpectedEof) = ⊥
 IsJudged (Err TooMuch) = ⊥
-IsJudged (Err (NotOneKem count)) = Unit {0}
-IsJudged (Err (IncorrectInputLength expected given)) = Unit {0}
-IsJudged (Err (OpenError number)) = Unit {0}
+IsJudged verdict = Unit {0}
 
 judged_first : (text : List ℕ) (v : Verdict) → IsJudged v → IsJudged (with_first text v)
 judged_first text (Ok texts) h = tt
@@ -72,24 +71,14 @@ judged_one opener keys sealed key context one size has =
 -- ---- verdicts
 
 verdict_of : (v : Verdict) → IsJudgedOr v → IsVerdict v
-verdict_of (Ok messages) h = tt
-verdict_of (Err NoMemory) (inl j) = j
-verdict_of (Err NoMemory) (inr e) = absurd cc
-verdict_of (Err ReadFault) (inl j) = j
-verdict_of (Err ReadFault) (inr e) = absurd cc
-verdict_of (Err XofExhausted) h = tt
-verdict_of (Err InvalidData) h = tt
-verdict_of (Err UnexpectedEof) h = tt
-verdict_of (Err TooMuch) h = tt
-verdict_of (Err (NotOneKem count)) h = tt
-verdict_of (Err (IncorrectInputLength expected given)) h = tt
-verdict_of (Err (OpenError number)) h = tt
+verdict_of v (inl j) = ((λ e. subst IsJudged e j), (λ e. subst IsJudged e j))
+verdict_of v (inr key) = ((λ e. let f = sym key ∙ e in cc f), (λ e. let f = sym key ∙ e in cc f))
 
 reading_verdict : (opener : Opener) (reading : Reading) → IsVerdict (judged opener reading)
 reading_verdict opener (Before_done stanzas) = verdict_of (judged_bodies opener (bodies (codes "kem") stanzas) (bodies (codes "msg") stanzas)) (bodies_judged opener (bodies (codes "kem") stanzas) (bodies (codes "msg") stanzas))
-reading_verdict opener Invalid_data = tt
-reading_verdict opener Unexpected_eof = tt
-reading_verdict opener Too_much = tt
+reading_verdict opener Invalid_data = ((λ e. cc e), (λ e. cc e))
+reading_verdict opener Unexpected_eof = ((λ e. cc e), (λ e. cc e))
+reading_verdict opener Too_much = ((λ e. cc e), (λ e. cc e))
 
 -- what a mail comes to is a verdict
 pub opens_verdict : (opener : Opener) (text : List ℕ) (budget : ℕ) (v : Verdict) → Opens opener text budget v → IsVerdict v
@@ -104,38 +93,32 @@ same_verdict opener text budget v w one other =
 pub some_verdict : (opener : Opener) (text : List ℕ) (budget : ℕ) → ((v : Verdict) → Opens opener text budget v → ⊥) → ⊥
 some_verdict opener text budget none = some_reading text budget (λ reading reads. none (judged opener reading) (record { reading = reading; reads = reads; verdict_is = refl }))
 
--- two mails with the same bodies of `kem` and of `msg` before their first `done` have one verdict
-pub same_bodies_verdict : (opener : Opener) (one other : List ℕ) (budget limit : ℕ) (ss ts : List Stanza) (v w : Verdict) → Reads one budget (Before_done ss) → Reads other limit (Before_done ts)
-    → bodies (codes "kem") ss ≡ bodies (codes "kem") ts → bodies (codes "msg") ss ≡ bodies (codes "msg") ts → Opens opener one budget v → Opens opener other limit w → v ≡ w
-same_bodies_verdict opener one other budget limit ss ts v w r q kems messages o p =
-    let first : v ≡ judged opener (Before_done ss) = o.verdict_is ∙ ap (judged opener) (same_reading one budget o.reading (Before_done ss) o.reads r) in
-    let second : w ≡ judged opener (Before_done ts) = p.verdict_is ∙ ap (judged opener) (same_reading other limit p.reading (Before_done ts) p.reads q) in
-    first ∙ (ap (λ (keys : List (List ℕ)). judged_bodies opener keys (bodies (codes "msg") ss)) kems ∙ (ap (judged_bodies opener (bodies (codes "kem") ts)) messages ∙ sym second))
+-- two mails with the same bodies before their first `done` have one verdict
+pub same_bodies_verdict : (opener : Opener) (one other : List ℕ) (budget limit : ℕ) (v : Verdict) → SameBodies one budget other limit → Opens opener one budget v → Opens opener other limit v
+same_bodies_verdict opener one other budget limit v same o =
+    let first : v ≡ judged opener (Before_done same.stanzas) = o.verdict_is ∙ ap (judged opener) (same_reading one budget o.reading (Before_done same.stanzas) o.reads same.reads) in
+    let keys = ap (λ (keys : List (List ℕ)). judged_bodies opener keys (bodies (codes "msg") same.stanzas)) same.same_keys in
+    let sealed = ap (judged_bodies opener (bodies (codes "kem") same.others)) same.same_sealed in
+    record { reading = Before_done same.others; reads = same.reads_other; verdict_is = first ∙ (keys ∙ sealed) }
 
 -- ---- what judging answers
 
 judges_said : (result v : Verdict) → Judges (λ (m : List (List ℕ)). m) result v → (result ≡ v) ⊎ (result ≡ Err NoMemory)
 judges_said (Ok messages) v j = inl (sym j)
-judges_said (Err NoMemory) v j = inr refl
-judges_said (Err ReadFault) v j = inl (sym j)
-judges_said (Err XofExhausted) v j = inl (sym j)
-judges_said (Err InvalidData) v j = inl (sym j)
-judges_said (Err UnexpectedEof) v j = inl (sym j)
-judges_said (Err TooMuch) v j = inl (sym j)
-judges_said (Err (NotOneKem count)) v j = inl (sym j)
-judges_said (Err (IncorrectInputLength expected given)) v j = inl (sym j)
-judges_said (Err (OpenError number)) v j = inl (sym j)
+judges_said (Err error) v (inl memory) = inr (ap Err memory)
+judges_said (Err error) v (inr same) = inl (sym same)
 
 -- what messages come to is never for want of a key
 pub opened_has_key : (meaning : ℕ → List ℕ → Option (List ℕ)) (number : ℕ) (sealed : List (List ℕ)) (result : Verdict) → Judges (λ (m : List (List ℕ)). m) result (opened meaning number sealed) → result ≢ Err XofExhausted
-opened_has_key meaning number sealed result j is =
-    let same : opened meaning number sealed ≡ Err XofExhausted = subst (λ (r : Verdict). Judges (λ (m : List (List ℕ)). m) r (opened meaning number sealed)) is j in
-    subst IsJudged same (opened_judged meaning number sealed)
+opened_has_key meaning number sealed result j is = elim (judges_said result (opened meaning number sealed) j) [
+  | inl same ↦ subst IsJudged (sym same ∙ is) (opened_judged meaning number sealed)
+  | inr memory ↦ let both : ◌≡◌ {A = Verdict} (Err NoMemory) (Err XofExhausted) = sym memory ∙ is in absurd (cc both)
+]
 
 module _ (opener : Opener) (stanzas : List Stanza) (result : Verdict) (judges : Judges (λ (m : List (List ℕ)). m) result (judged opener (Before_done stanzas))) where
   opens_as : (text : List ℕ) (budget : ℕ) → Reads text budget (Before_done stanzas) → (result ≡ judged opener (Before_done stanzas)) ⊎ (result ≡ Err NoMemory) → IsVerdict result → Opens opener text budget result
   opens_as text budget reads (inl same) is = record { reading = Before_done stanzas; reads = reads; verdict_is = same }
-  opens_as text budget reads (inr memory) is = absurd (subst IsVerdict memory is)
+  opens_as text budget reads (inr memory) is = absurd (is.0 memory)
 
   -- the answer is the mail's verdict
   pub done_opens : (l : Option (List ℕ)) (budget : ℕ) → IfSome l (λ text. Reads text budget (Before_done stanzas)) → IfSome l (λ text. IsVerdict result → Opens opener text budget result)
@@ -171,25 +154,19 @@ module _ (opener : Opener) (stanzas : List Stanza) (result : Verdict) (judges : 
   pub done_not_ended : result ≢ Err UnexpectedEof
   done_not_ended = not_as UnexpectedEof (λ j. j) (λ e. cc e) (λ e. cc e) answer_judged
 
+stopped_judged : (result : Verdict) (budget : ℕ) (bytes : List ℕ) → IsJudged result → HoldsDone bytes → StoppedBy result budget bytes
+stopped_judged (Err NoMemory) budget bytes j holds = absurd j
+stopped_judged (Err ReadFault) budget bytes j holds = absurd j
+stopped_judged (Err XofExhausted) budget bytes j holds = absurd j
+stopped_judged (Err InvalidData) budget bytes j holds = absurd j
+stopped_judged (Err UnexpectedEof) budget bytes j holds = absurd j
+stopped_judged (Err TooMuch) budget bytes j holds = absurd j
+stopped_judged result budget bytes j holds = holds
+
 stopped_as : (result : Verdict) (budget : ℕ) (bytes : List ℕ) → IsJudgedOr result ⊎ (result ≡ Err NoMemory) → result ≢ Err XofExhausted → HoldsDone bytes → StoppedBy result budget bytes
-stopped_as (Ok messages) budget bytes h key holds = holds
-stopped_as (Err NoMemory) budget bytes h key holds = tt
-stopped_as (Err XofExhausted) budget bytes h key holds = absurd (key refl)
-stopped_as (Err ReadFault) budget bytes (inl (inl j)) key holds = absurd j
-stopped_as (Err ReadFault) budget bytes (inl (inr e)) key holds = absurd (key e)
-stopped_as (Err ReadFault) budget bytes (inr e) key holds = absurd cc
-stopped_as (Err InvalidData) budget bytes (inl (inl j)) key holds = absurd j
-stopped_as (Err InvalidData) budget bytes (inl (inr e)) key holds = absurd (key e)
-stopped_as (Err InvalidData) budget bytes (inr e) key holds = absurd cc
-stopped_as (Err UnexpectedEof) budget bytes (inl (inl j)) key holds = absurd j
-stopped_as (Err UnexpectedEof) budget bytes (inl (inr e)) key holds = absurd (key e)
-stopped_as (Err UnexpectedEof) budget bytes (inr e) key holds = absurd cc
-stopped_as (Err TooMuch) budget bytes (inl (inl j)) key holds = absurd j
-stopped_as (Err TooMuch) budget bytes (inl (inr e)) key holds = absurd (key e)
-stopped_as (Err TooMuch) budget bytes (inr e) key holds = absurd cc
-stopped_as (Err (NotOneKem count)) budget bytes h key holds = holds
-stopped_as (Err (IncorrectInputLength expected given)) budget bytes h key holds = holds
-stopped_as (Err (OpenError number)) budget bytes h key holds = holds
+stopped_as result budget bytes (inl (inl j)) key holds = stopped_judged result budget bytes j holds
+stopped_as result budget bytes (inl (inr e)) key holds = absurd (key e)
+stopped_as result budget bytes (inr memory) key holds = subst (λ (v : Verdict). StoppedBy v budget bytes) (sym memory) tt
 
 -- what was taken for the stanzas was taken for the answer
 pub done_taken : {X : Type 0} (opener : Opener) (stanzas : List Stanza) (result : Verdict) → Judges (λ (m : List (List ℕ)). m) result (judged opener (Before_done stanzas)) → result ≢ Err XofExhausted
@@ -202,38 +179,32 @@ done_taken opener stanzas result judges key (Some text) m budget x taken =
 -- ---- where there are no stanzas
 
 module _ {X : Type 0} (view : X → List Stanza) (opener : Opener) where
-  refused_as : (text : List ℕ) (budget : ℕ) (e : MailError) → IsRead view text budget (Err e) → IsVerdict (Err e) → Opens opener text budget (Err e)
-  refused_as text budget NoMemory read is = absurd is
-  refused_as text budget ReadFault read is = absurd is
-  refused_as text budget XofExhausted read is = absurd read
-  refused_as text budget InvalidData read is = record { reading = Invalid_data; reads = read; verdict_is = refl }
-  refused_as text budget UnexpectedEof read is = record { reading = Unexpected_eof; reads = read; verdict_is = refl }
-  refused_as text budget TooMuch read is = record { reading = Too_much; reads = read; verdict_is = refl }
-  refused_as text budget (NotOneKem count) read is = absurd read
-  refused_as text budget (IncorrectInputLength expected given) read is = absurd read
-  refused_as text budget (OpenError number) read is = absurd read
+  refused_as : (text : List ℕ) (budget : ℕ) (phase : PhaseError) → IsRefusedFor phase text budget → IsVerdict (Err (of_phase phase)) → Opens opener text budget (Err (of_phase phase))
+  refused_as text budget PhaseNoMemory read is = absurd (is.0 refl)
+  refused_as text budget PhaseReadFault read is = absurd (is.1 refl)
+  refused_as text budget PhaseInvalidData read is = record { reading = Invalid_data; reads = read; verdict_is = refl }
+  refused_as text budget PhaseUnexpectedEof read is = record { reading = Unexpected_eof; reads = read; verdict_is = refl }
+  refused_as text budget PhaseTooMuch read is = record { reading = Too_much; reads = read; verdict_is = refl }
 
   -- the refusal is the mail's verdict
   pub refused_opens : (l : Option (List ℕ)) (budget : ℕ) (e : MailError) → IfSome l (λ text. IsRead view text budget (Err e)) → IfSome l (λ text. IsVerdict (Err e) → Opens opener text budget (Err e))
   refused_opens None budget e read = tt
-  refused_opens (Some text) budget e read = refused_as text budget e read
+  refused_opens (Some text) budget e (phase, same, read) = rw same (refused_as text budget phase read)
 
-  complete_refused : (text : List ℕ) (budget : ℕ) (e : MailError) (v : Verdict) → IsRead view text budget (Err e) → Opens opener text budget v → e ≢ ReadFault → (Err e ≡ v) ⊎ (◌≡◌ {A = Verdict} (Err e) (Err NoMemory))
-  complete_refused text budget NoMemory v read opens calm = inr refl
-  complete_refused text budget ReadFault v read opens calm = absurd (calm refl)
-  complete_refused text budget XofExhausted v read opens calm = absurd read
-  complete_refused text budget InvalidData v read opens calm = inl (same_verdict opener text budget (Err InvalidData) v (refused_as text budget InvalidData read tt) opens)
-  complete_refused text budget UnexpectedEof v read opens calm = inl (same_verdict opener text budget (Err UnexpectedEof) v (refused_as text budget UnexpectedEof read tt) opens)
-  complete_refused text budget TooMuch v read opens calm = inl (same_verdict opener text budget (Err TooMuch) v (refused_as text budget TooMuch read tt) opens)
-  complete_refused text budget (NotOneKem count) v read opens calm = absurd read
-  complete_refused text budget (IncorrectInputLength expected given) v read opens calm = absurd read
-  complete_refused text budget (OpenError number) v read opens calm = absurd read
+  complete_refused : (text : List ℕ) (budget : ℕ) (phase : PhaseError) (v : Verdict) → IsRefusedFor phase text budget → Opens opener text budget v → of_phase phase ≢ ReadFault
+      → (Err (of_phase phase) ≡ v) ⊎ (◌≡◌ {A = Verdict} (Err (of_phase phase)) (Err NoMemory))
+  complete_refused text budget PhaseNoMemory v read opens calm = inr refl
+  complete_refused text budget PhaseReadFault v read opens calm = absurd (calm refl)
+  complete_refused text budget PhaseInvalidData v read opens calm = inl (same_verdict opener text budget (Err InvalidData) v (refused_as text budget PhaseInvalidData read ((λ e. cc e), (λ e. cc e))) opens)
+  complete_refused text budget PhaseUnexpectedEof v read opens calm = inl (same_verdict opener text budget (Err UnexpectedEof) v (refused_as text budget PhaseUnexpectedEof read ((λ e. cc e), (λ e. cc e))) opens)
+  complete_refused text budget PhaseTooMuch v read opens calm = inl (same_verdict opener text budget (Err TooMuch) v (refused_as text budget PhaseTooMuch read ((λ e. cc e), (λ e. cc e))) opens)
 
   -- the mail's verdict is the refusal
   pub refused_complete : (R : Type 0) (l : Option (List ℕ)) (budget : ℕ) (e : MailError) → IfSome l (λ text. IsRead view text budget (Err e)) → (e ≡ ReadFault → R)
       → IfSome l (λ text. (v : Verdict) → Opens opener text budget v → (R → ⊥) → (Err e ≡ v) ⊎ (◌≡◌ {A = Verdict} (Err e) (Err NoMemory)))
   refused_complete R None budget e read rose = tt
-  refused_complete R (Some text) budget e read rose = λ v opens calm. complete_refused text budget e v read opens (λ fault. calm (rose fault))
+  refused_complete R (Some text) budget e (phase, same, read) rose = λ v opens calm.
+      subst (λ (x : MailError). (Err x ≡ v) ⊎ (◌≡◌ {A = Verdict} (Err x) (Err NoMemory))) (sym same) (complete_refused text budget phase v read opens (λ fault. calm (rose (same ∙ fault))))
 
 phase_has_key : (phase : PhaseError) → of_phase phase ≢ XofExhausted
 phase_has_key PhaseNoMemory e = cc e

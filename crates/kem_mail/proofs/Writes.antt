@@ -1,61 +1,111 @@
 -- One write after another.
 use Rattle.std.proofs.Common.{◌≡◌, ℕ, zero, suc, Bool, true, ◌+◌, ◌/◌, ◌%◌, ◌<◌, List, [], ◌∷◌, ◌++◌, length, take, drop, get_or, Option, Some, None, refl, sym, ap, subst, ◌∙◌, append_assoc, arith}
-use Rattle.std.specs.Prelude.{◌==◌, IfSome, decimal, slice_get}
+use Rattle.std.specs.Prelude.{◌==◌, ◌≤◌, IfSome, Result, Ok, Err, decimal, slice_get}
 use Rattle.std.proofs.lemmas.Bool.{eqb-true}
 use Rattle.std.proofs.lemmas.List.{append-nil, nil_from_length, take-append-drop, take_more, drop_more}
 use Rattle.std.proofs.lemmas.List.Concat.{flat_map-append}
 use Rattle.std.proofs.lemmas.Option.{none-some}
 use Rattle.hex.specs.Hex.{encode_with, encode_lower, lower_digits}
-use Rattle.age_core.specs.Outside.{Gains, GainsPart}
+use Rattle.age_core.specs.Outside.{Gains, GainsPart, Rose, Wrote, WrotePart, Writes}
 use Rattle.kem_mail.specs.Lines.{lines, spaced}
-use Rattle.kem_mail.specs.Parts.{Hands}
+use Rattle.kem_mail.specs.private.Telling.{Hands}
 
-pub gains_then : (a b c : Option (List ℕ)) (x y : List ℕ) → Gains a b x → Gains b c y → Gains a c (x ++ y)
+gains_then : (a b c : Option (List ℕ)) (x y : List ℕ) → Gains a b x → Gains b c y → Gains a c (x ++ y)
 gains_then None b c x y h k = tt
 gains_then (Some text) b c x y h k =
     subst (λ (o : Option (List ℕ)). IfSome o (λ got. c ≡ Some (got ++ y))) h k ∙ ap Some (append_assoc text x y)
 
-pub part_then : (a b c : Option (List ℕ)) (x y z : List ℕ) → Gains a b x → GainsPart b c y → GainsPart a c (x ++ (y ++ z))
-part_then None b c x y z h k = tt
-part_then (Some text) b c x y z h k =
+gains_part : (a b c : Option (List ℕ)) (x y z : List ℕ) → Gains a b x → GainsPart b c y → GainsPart a c (x ++ (y ++ z))
+gains_part None b c x y z h k = tt
+gains_part (Some text) b c x y z h k =
     let part = subst (λ (o : Option (List ℕ)). IfSome o (λ got. (p : List ℕ) × (r : List ℕ) × (y ≡ p ++ r) × (c ≡ Some (got ++ p)))) h k in
     let whole : x ++ (y ++ z) ≡ (x ++ part.0) ++ (part.1 ++ z) = ap (λ (t : List ℕ). x ++ (t ++ z)) part.2 ∙ simp append_assoc in
     (x ++ part.0, part.1 ++ z, whole, part.3 ∙ ap Some (append_assoc text x part.0))
 
-pub part_last : (a b c : Option (List ℕ)) (x y : List ℕ) → Gains a b x → GainsPart b c y → GainsPart a c (x ++ y)
-part_last a b c x y h k = subst (λ (t : List ℕ). GainsPart a c (x ++ t)) (append-nil y) (part_then a b c x y [] h k)
+gains_front : (a c : Option (List ℕ)) (x z : List ℕ) → GainsPart a c x → GainsPart a c (x ++ z)
+gains_front None c x z h = tt
+gains_front (Some text) c x z h = (h.0, h.1 ++ z, ap (λ (t : List ℕ). t ++ z) h.2 ∙ append_assoc h.0 h.1 z, h.3)
 
--- a part of a front is a part of the whole
-pub part_front : (a c : Option (List ℕ)) (x z : List ℕ) → GainsPart a c x → GainsPart a c (x ++ z)
-part_front None c x z h = tt
-part_front (Some text) c x z h = (h.0, h.1 ++ z, ap (λ (t : List ℕ). t ++ z) h.2 ∙ append_assoc h.0 h.1 z, h.3)
+gains_nothing : (a : Option (List ℕ)) → Gains a a []
+gains_nothing None = tt
+gains_nothing (Some text) = ap Some (sym (append-nil text))
 
--- ---- what is held for the sink
+module _ {W : Type 0} (got : W → Option (List ℕ)) (faults : W → ℕ) (plan : W → List ℕ) where
+  -- nothing
+  pub wrote_nothing : (a : W) → Wrote got faults plan a a []
+  wrote_nothing a = record { gained = gains_nothing (got a); no_fault = refl; same_plan = refl }
 
--- one output after another
-pub hands_then : (a b c : Option (List ℕ)) (p q r x y : List ℕ) → Hands a b p q x → Hands b c q r y → Hands a c p r (x ++ y)
-hands_then a b c p q r x y h k = (
-  h.0 ++ k.0,
-  gains_then a b c h.0 k.0 h.1 k.1,
-  sym (append_assoc p x y) ∙ (ap (λ (t : List ℕ). t ++ y) h.2 ∙ (append_assoc h.0 q y ∙ (ap (λ (t : List ℕ). h.0 ++ t) k.2 ∙ sym (append_assoc h.0 k.0 r)))),
-)
+  -- one output after another
+  pub wrote_then : (a b c : W) (x y : List ℕ) → Wrote got faults plan a b x → Wrote got faults plan b c y → Wrote got faults plan a c (x ++ y)
+  wrote_then a b c x y h k = record {
+    gained = gains_then (got a) (got b) (got c) x y h.gained k.gained;
+    no_fault = k.no_fault ∙ h.no_fault;
+    same_plan = k.same_plan ∙ h.same_plan;
+  }
 
--- behind an output, a part of what was held then was handed over: a part of the whole
-pub hands_part : (a b c : Option (List ℕ)) (p q x y : List ℕ) → Hands a b p q x → GainsPart b c q → GainsPart a c (p ++ (x ++ y))
-hands_part a b c p q x y h k =
-    let whole : p ++ (x ++ y) ≡ h.0 ++ (q ++ y) = sym (append_assoc p x y) ∙ (ap (λ (t : List ℕ). t ++ y) h.2 ∙ append_assoc h.0 q y) in
-    subst (GainsPart a c) (sym whole) (part_then a b c h.0 q y h.1 k)
+  -- an output, and a part of what follows it, is a part of all
+  pub part_then : (a b c : W) (x y z : List ℕ) → Wrote got faults plan a b x → WrotePart got faults plan b c y → WrotePart got faults plan a c (x ++ (y ++ z))
+  part_then a b c x y z h k = record {
+    gained = gains_part (got a) (got b) (got c) x y z h.gained k.gained;
+    fault = subst (λ (n : ℕ). Rose n (faults c)) h.no_fault k.fault;
+    no_fall = subst (λ (n : ℕ). n ≤ faults c) h.no_fault k.no_fall;
+    same_plan = k.same_plan ∙ h.same_plan;
+  }
 
--- the same of a part of what was held and of another output
-pub hands_part_of : (a b c : Option (List ℕ)) (p q x y z : List ℕ) → Hands a b p q x → GainsPart b c (q ++ y) → GainsPart a c (p ++ (x ++ (y ++ z)))
-hands_part_of a b c p q x y z h k =
-    let whole : p ++ (x ++ (y ++ z)) ≡ h.0 ++ ((q ++ y) ++ z) =
-    sym (append_assoc p x (y ++ z)) ∙ (ap (λ (t : List ℕ). t ++ (y ++ z)) h.2 ∙ (append_assoc h.0 q (y ++ z) ∙ ap (λ (t : List ℕ). h.0 ++ t) (sym (append_assoc q y z)))) in
-    subst (GainsPart a c) (sym whole) (part_then a b c h.0 (q ++ y) z h.1 k)
+  pub part_last : (a b c : W) (x y : List ℕ) → Wrote got faults plan a b x → WrotePart got faults plan b c y → WrotePart got faults plan a c (x ++ y)
+  part_last a b c x y h k = subst (λ (t : List ℕ). WrotePart got faults plan a c (x ++ t)) (append-nil y) (part_then a b c x y [] h k)
 
--- more is held, and more is due
-pub hands_pushed : (a b : Option (List ℕ)) (p q x y : List ℕ) → Hands a b p q x → Hands a b p (q ++ y) (x ++ y)
-hands_pushed a b p q x y h = (h.0, h.1, sym (append_assoc p x y) ∙ (ap (λ (t : List ℕ). t ++ y) h.2 ∙ append_assoc h.0 q y))
+  -- a part of a front is a part of the whole
+  pub part_front : (a c : W) (x z : List ℕ) → WrotePart got faults plan a c x → WrotePart got faults plan a c (x ++ z)
+  part_front a c x z h = record { gained = gains_front (got a) (got c) x z h.gained; fault = h.fault; no_fall = h.no_fall; same_plan = h.same_plan }
+
+  -- ---- what is held for the sink
+
+  -- nothing is handed over
+  pub hands_nothing : (a : W) (p : List ℕ) → Hands got faults plan a a p p []
+  hands_nothing a p = ([], wrote_nothing a, append-nil p)
+
+  -- all is handed over
+  pub hands_all : (a b : W) (p q : List ℕ) → Wrote got faults plan a b p → q ≡ [] → Hands got faults plan a b p q []
+  hands_all a b p q h nil = (p, h, ap (λ (t : List ℕ). p ++ t) (sym nil))
+
+  -- one output after another
+  pub hands_then : (a b c : W) (p q r x y : List ℕ) → Hands got faults plan a b p q x → Hands got faults plan b c q r y → Hands got faults plan a c p r (x ++ y)
+  hands_then a b c p q r x y h k = (
+    h.0 ++ k.0,
+    wrote_then a b c h.0 k.0 h.1 k.1,
+    sym (append_assoc p x y) ∙ (ap (λ (t : List ℕ). t ++ y) h.2 ∙ (append_assoc h.0 q y ∙ (ap (λ (t : List ℕ). h.0 ++ t) k.2 ∙ sym (append_assoc h.0 k.0 r)))),
+  )
+
+  -- behind an output, a part of what was held then and of another output was handed over: a part of the
+  -- whole
+  pub hands_part : (a b c : W) (p q x y z : List ℕ) → Hands got faults plan a b p q x → WrotePart got faults plan b c (q ++ y) → WrotePart got faults plan a c (p ++ (x ++ (y ++ z)))
+  hands_part a b c p q x y z h k =
+      let whole : p ++ (x ++ (y ++ z)) ≡ h.0 ++ ((q ++ y) ++ z) =
+      sym (append_assoc p x (y ++ z)) ∙ (ap (λ (t : List ℕ). t ++ (y ++ z)) h.2 ∙ (append_assoc h.0 q (y ++ z) ∙ ap (λ (t : List ℕ). h.0 ++ t) (sym (append_assoc q y z)))) in
+      subst (WrotePart got faults plan a c) (sym whole) (part_then a b c h.0 (q ++ y) z h.1 k)
+
+  -- the same where no other output follows
+  pub hands_part_last : (a b c : W) (p q x : List ℕ) → Hands got faults plan a b p q x → WrotePart got faults plan b c q → WrotePart got faults plan a c (p ++ x)
+  hands_part_last a b c p q x h k =
+      subst (λ (t : List ℕ). WrotePart got faults plan a c (p ++ t)) (append-nil x) (hands_part a b c p q x [] [] h (subst (WrotePart got faults plan b c) (sym (append-nil q)) k))
+
+  -- behind an output, all that is held is handed over
+  pub hands_wrote : (a b c : W) (p q x : List ℕ) → Hands got faults plan a b p q x → Wrote got faults plan b c q → Wrote got faults plan a c (p ++ x)
+  hands_wrote a b c p q x h k = subst (Wrote got faults plan a c) (sym h.2) (wrote_then a b c h.0 q h.1 k)
+
+  -- the same of a last call that writes
+  pub writes_last : {A E : Type 0} (a b c : W) (result : Result A E) (x y : List ℕ) → Wrote got faults plan a b x → Writes got faults plan b c result y → Writes got faults plan a c result (x ++ y)
+  writes_last a b c (Ok r) x y h k = wrote_then a b c x y h k
+  writes_last a b c (Err e) x y h k = part_last a b c x y h k
+
+  pub writes_held : {A E : Type 0} (a b c : W) (result : Result A E) (p q x : List ℕ) → Hands got faults plan a b p q x → Writes got faults plan b c result q → Writes got faults plan a c result (p ++ x)
+  writes_held a b c (Ok r) p q x h k = hands_wrote a b c p q x h k
+  writes_held a b c (Err e) p q x h k = hands_part_last a b c p q x h k
+
+  -- more is held, and more is due
+  pub hands_pushed : (a b : W) (p q x y : List ℕ) → Hands got faults plan a b p q x → Hands got faults plan a b p (q ++ y) (x ++ y)
+  hands_pushed a b p q x y h = (h.0, h.1, sym (append_assoc p x y) ∙ (ap (λ (t : List ℕ). t ++ y) h.2 ∙ append_assoc h.0 q y))
 
 -- ---- digits
 
@@ -72,13 +122,19 @@ unfolding encode_with
 encode_nothing = refl
 
 -- a chunk more was written or is held
-pub digits_more : (before mid now : Option (List ℕ)) (n : ℕ) (p q r whole done bytes : List ℕ) → whole ≡ done ++ encode_lower bytes → Hands before mid p q done → Hands mid now q r (encode_lower (take n bytes))
-    → (more : List ℕ) × (whole ≡ more ++ encode_lower (drop n bytes)) × Hands before now p r more
-digits_more before mid now n p q r whole done bytes is h k = (
+pub digits_more : {W : Type 0} (got : W → Option (List ℕ)) (faults : W → ℕ) (plan : W → List ℕ) (before mid now : W) (n : ℕ) (p q r whole done bytes : List ℕ) → whole ≡ done ++ encode_lower bytes
+    → Hands got faults plan before mid p q done → Hands got faults plan mid now q r (encode_lower (take n bytes)) → (more : List ℕ) × (whole ≡ more ++ encode_lower (drop n bytes)) × Hands got faults plan before now p r more
+digits_more got faults plan before mid now n p q r whole done bytes is h k = (
   done ++ encode_lower (take n bytes),
   is ∙ (ap (λ (t : List ℕ). done ++ t) (encode_split n bytes) ∙ sym (append_assoc done (encode_lower (take n bytes)) (encode_lower (drop n bytes)))),
-  hands_then before mid now p q r done (encode_lower (take n bytes)) h k,
+  hands_then got faults plan before mid now p q r done (encode_lower (take n bytes)) h k,
 )
+
+-- the digits of a line, with a chunk of them written out
+pub line_split : (whole done bytes : List ℕ) (n : ℕ) → whole ≡ done ++ encode_lower bytes → whole ++ 10 ∷ [] ≡ done ++ (encode_lower (take n bytes) ++ (encode_lower (drop n bytes) ++ 10 ∷ []))
+line_split whole done bytes n is =
+    ap (λ (t : List ℕ). t ++ 10 ∷ []) is ∙ (append_assoc done (encode_lower bytes) (10 ∷ [])
+    ∙ (ap (λ (t : List ℕ). done ++ (t ++ 10 ∷ [])) (encode_split n bytes) ∙ ap (λ (t : List ℕ). done ++ t) (append_assoc (encode_lower (take n bytes)) (encode_lower (drop n bytes)) (10 ∷ []))))
 
 -- no byte is left, and so no digits are
 pub digits_all : (whole done rest : List ℕ) (none : Bool) → none ≡ (length rest == 0) → none ≡ true → whole ≡ done ++ encode_lower rest → done ≡ whole

@@ -1,9 +1,11 @@
 -- The commands, the words that spell them, and the algorithms that the words name.
 use Rattle.std.specs.Prelude.{◌≡◌, ℕ, ◌≤◌, List, [], ◌∷◌, codes, decimal}
+use Rattle.gcm_core.specs.Gcm.{open_of}
 use Rattle.sha2.specs.Sha256.{sha256}
 use Rattle.sha2.specs.Sha512.{sha384, sha512}
 use Rattle.ml_kem.specs.Parameters.{Parameters, ml_kem_512, ml_kem_768, ml_kem_1024}
 use Rattle.hpke.specs.Schedule.{KdfAlgorithm, AeadAlgorithm}
+use Rattle.kem_mail.specs.Mail.{OpenMeaning}
 use Rattle.kem_mail.specs.declared.command.Command.{Command}
 use Rattle.kem_mail.specs.declared.command.Command.TheVariants.{Open, Key}
 use Rattle.kem_mail.specs.declared.command.SetName.{SetName}
@@ -43,6 +45,12 @@ aead_word Aes256 = codes "aes256"
 abbrev pub aead_algorithm : AeadName → AeadAlgorithm
 aead_algorithm Aes128 = record { key_size = 16; nonce_size = 12; aead_id = 1 }
 aead_algorithm Aes256 = record { key_size = 32; nonce_size = 12; aead_id = 2 }
+
+-- what an AEAD opens a sealed text to: GCM under AES with keys of 16 or of 32 bytes (NIST SP 800-38D,
+-- section 7.2)
+abbrev pub aead_open : AeadName → OpenMeaning
+aead_open Aes128 = open_of
+aead_open Aes256 = open_of
 
 -- the words of a command; a budget is a decimal number without a leading zero
 abbrev pub words_of : Command → List (List ℕ)

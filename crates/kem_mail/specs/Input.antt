@@ -10,13 +10,21 @@ pub record IsLine (least most : ℕ) (text bytes : List ℕ) : Type 0 where
   pub short : length digits ≤ most
   pub decodes : decode_of digits ≡ Ok bytes
 
--- the line of a seed: 128 digits
-abbrev pub IsSeedLine : List ℕ → List ℕ → Type 0
-IsSeedLine text seed = IsLine 128 128 text seed
+-- how many digits spell a seed, of 64 bytes
+abbrev pub seed_digits : ℕ
+seed_digits = 128
 
--- the line of an info: an even number of digits up to 8192
+-- the most digits that spell an info
+abbrev pub most_info_digits : ℕ
+most_info_digits = 8192
+
+-- the line of a seed
+abbrev pub IsSeedLine : List ℕ → List ℕ → Type 0
+IsSeedLine text seed = IsLine seed_digits seed_digits text seed
+
+-- the line of an info: an even number of digits
 abbrev pub IsInfoLine : List ℕ → List ℕ → Type 0
-IsInfoLine text info = IsLine 0 8192 text info
+IsInfoLine text info = IsLine 0 most_info_digits text info
 
 -- a line of digits, whatever it spells
 abbrev pub IsLineText : ℕ → ℕ → List ℕ → Type 0

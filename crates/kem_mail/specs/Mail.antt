@@ -1,5 +1,5 @@
 -- What a mail opens to: its messages, or the first cause that applies of why it doesn't open.
-use Rattle.std.specs.Prelude.{◌≡◌, ℕ, ◌+◌, ◌==◌, if◌then◌else◌, List, [], ◌∷◌, length, map, filter, codes, Option, Some, None, Result, Ok, Err}
+use Rattle.std.specs.Prelude.{◌≡◌, ◌≢◌, ℕ, ◌+◌, ◌==◌, if◌then◌else◌, List, [], ◌∷◌, length, map, filter, codes, Option, Some, None, Result, Ok, Err}
 use Rattle.std.specs.Str.{bytes_eq}
 use Rattle.kem_hash.specs.Family.{Family}
 use Rattle.ml_kem.specs.Parameters.{Parameters}
@@ -16,18 +16,9 @@ use Rattle.kem_mail.specs.declared.error.MailError.TheVariants.{NoMemory, ReadFa
 abbrev pub Verdict : Type 0
 Verdict = Result (List (List ℕ)) MailError
 
--- an answer that says what the mail holds: want of memory and a fault of the source don't
+-- an answer that says what the mail holds: neither want of memory nor a fault of the source
 abbrev pub IsVerdict : Verdict → Type 0
-IsVerdict (Ok messages) = Unit {0}
-IsVerdict (Err NoMemory) = ⊥
-IsVerdict (Err ReadFault) = ⊥
-IsVerdict (Err XofExhausted) = Unit {0}
-IsVerdict (Err InvalidData) = Unit {0}
-IsVerdict (Err UnexpectedEof) = Unit {0}
-IsVerdict (Err TooMuch) = Unit {0}
-IsVerdict (Err (NotOneKem count)) = Unit {0}
-IsVerdict (Err (IncorrectInputLength expected given)) = Unit {0}
-IsVerdict (Err (OpenError number)) = Unit {0}
+IsVerdict verdict = (verdict ≢ Err NoMemory) × (verdict ≢ Err ReadFault)
 
 -- what a sealed text opens to under a key, a nonce and associated data, or none (RFC 9180, section 4)
 abbrev pub OpenMeaning : Type 0
@@ -97,6 +88,15 @@ pub record Opens (opener : Opener) (text : List ℕ) (budget : ℕ) (verdict : V
   pub reading : Reading
   pub reads : Reads text budget reading
   pub verdict_is : verdict ≡ judged opener reading
+
+-- Two mails, each within its budget, hold the same bodies of `kem` and of `msg` before their first `done`.
+pub record SameBodies (text : List ℕ) (budget : ℕ) (other : List ℕ) (limit : ℕ) : Type 0 where
+  pub stanzas : List Stanza
+  pub others : List Stanza
+  pub reads : Reads text budget (Before_done stanzas)
+  pub reads_other : Reads other limit (Before_done others)
+  pub same_keys : bodies (codes "kem") stanzas ≡ bodies (codes "kem") others
+  pub same_sealed : bodies (codes "msg") stanzas ≡ bodies (codes "msg") others
 
 -- how the holder of a lattice key opens a mail, by the key's seed
 abbrev pub lattice_opener : Parameters → Family → KdfAlgorithm → AeadAlgorithm → OpenMeaning → List ℕ → List ℕ → Opener

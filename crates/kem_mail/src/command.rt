@@ -6,7 +6,7 @@ ghost use Rattle.kem_mail.specs.Command.{Spells, set_word, kdf_word, aead_word, 
 
 use itoa::Buffer;
 
-/// The most bytes of a mail that a command may ask to be read.
+// The most bytes of a mail that a command may ask to be read.
 const GREATEST_BUDGET: u64 = 16_777_216;
 
 /// A parameter set of the lattice KEM.
@@ -49,7 +49,7 @@ pub enum Command {
     Key(SetName),
 }
 
-/// The parameter set of a word.
+// The parameter set of a word.
 fn set_named(word: &str) -> Option<SetName>
     ensures found { IfSome result (λ set. word.now ≡ set_word set) }
     ensures none { IfNone result ((set : SetName) → word.now ≡ set_word set → ⊥) }
@@ -62,7 +62,7 @@ fn set_named(word: &str) -> Option<SetName>
     }
 }
 
-/// The KDF of a word.
+// The KDF of a word.
 fn kdf_named(word: &str) -> Option<KdfName>
     ensures found { IfSome result (λ kdf. word.now ≡ kdf_word kdf) }
     ensures none { IfNone result ((kdf : KdfName) → word.now ≡ kdf_word kdf → ⊥) }
@@ -75,7 +75,7 @@ fn kdf_named(word: &str) -> Option<KdfName>
     }
 }
 
-/// The AEAD of a word.
+// The AEAD of a word.
 fn aead_named(word: &str) -> Option<AeadName>
     ensures found { IfSome result (λ aead. word.now ≡ aead_word aead) }
     ensures none { IfNone result ((aead : AeadName) → word.now ≡ aead_word aead → ⊥) }
@@ -87,7 +87,7 @@ fn aead_named(word: &str) -> Option<AeadName>
     }
 }
 
-/// The budget that a word spells: a decimal number without a leading zero, from 1 on.
+// The budget that a word spells: a decimal number without a leading zero, from 1 on.
 fn budget_of(word: &str) -> Option<u64>
     ensures found { IfSome result (λ n. (word.now ≡ decimal n) × (1 ≤ n) × (n ≤ greatest_budget)) }
     ensures none { IfNone result ((n : ℕ) → word.now ≡ decimal n → 1 ≤ n → n ≤ greatest_budget → ⊥) }
@@ -107,7 +107,7 @@ fn budget_of(word: &str) -> Option<u64>
     }
 }
 
-/// The command that makes a key, with this word behind its own.
+// The command that makes a key, with this word behind its own.
 fn key_command(set: &str) -> Option<Command>
     ensures found { IfSome result (λ command. Spells (codes "key" ∷ set.now ∷ []) command) }
     ensures none { IfNone result ((command : Command) → Spells (codes "key" ∷ set.now ∷ []) command → ⊥) }
@@ -116,7 +116,7 @@ fn key_command(set: &str) -> Option<Command>
     Some(Command::Key(set))
 }
 
-/// The command that opens a mail, with these words behind its own.
+// The command that opens a mail, with these words behind its own.
 fn open_command(set: &str, kdf: &str, aead: &str, budget: &str) -> Option<Command>
     ensures found { IfSome result (λ command. Spells (codes "open" ∷ set.now ∷ kdf.now ∷ aead.now ∷ budget.now ∷ []) command) }
     ensures none { IfNone result ((command : Command)

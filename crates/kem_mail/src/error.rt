@@ -1,7 +1,7 @@
 //! Why a mail wasn't opened, and why a run wrote no items.
 
 ghost use Rattle.std.specs.Prelude.{◌≡◌};
-ghost use Rattle.kem_mail.specs.Parts.{of_phase, of_kem};
+ghost use Rattle.kem_mail.specs.Causes.{of_phase, of_kem};
 ghost use Rattle.kem_mail.specs.declared.error.MailError.TheVariants.{NoMemory};
 ghost use Rattle.kem_mail.specs.declared.error.RunError.TheVariants.{Mail};
 

@@ -4,9 +4,9 @@ ghost use Rattle.std.specs.Prelude.{◌≡◌, ◌≤◌, ◌<◌, ◌+◌, ◌*
 ghost use Rattle.std.specs.List.{AllPass};
 ghost use Rattle.hex.specs.Hex.{decode_of, is_hex_digit};
 ghost use Rattle.age_core.specs.Outside.{Rose};
-ghost use Rattle.kem_mail.specs.Input.{IsHead, IsHeadText, IsLine, IsLineText, IsSeedLine};
+ghost use Rattle.kem_mail.specs.Input.{IsHead, IsHeadText, IsLine, IsLineText, IsSeedLine, seed_digits};
 ghost use Rattle.kem_mail.specs.Taken.{Lost};
-ghost use Rattle.kem_mail.specs.Parts.{ByteTaken, InputTaken, behind};
+ghost use Rattle.kem_mail.specs.private.InputParts.{ByteTaken, InputTaken, behind};
 
 use crate::error::{MailError, RunError};
 use age_core::outside::{Failed, Source};
@@ -14,13 +14,13 @@ use hex::FromHexError;
 use ml_kem::Seed;
 use std::alloc::Global;
 
-/// How many digits spell a seed.
+// How many digits spell a seed.
 const SEED_DIGITS: usize = 128;
 
-/// The most digits that spell an info.
+// The most digits that spell an info.
 const INFO_DIGITS: usize = 8192;
 
-/// How many bytes the line of a seed has.
+// How many bytes the line of a seed has.
 const SEED_LINE_LEN: u64 = 129;
 
 /// The head of a mail: a seed, and what a mail is bound to beside its key.
@@ -30,12 +30,13 @@ pub struct Head {
     pub info: Vec<u8>,
 }
 
-/// The next byte of a source.
+// The next byte of a source.
 fn next_byte<S: Source>(src: &mut S) -> Result<u8, RunError>
     ensures taken { Lost (S.left src.old) (S.left src.new) (ByteTaken result) }
     ensures ended { IsErrOf result RunError.Ended → IfSome (S.left src.old) (λ text. S.left src.new ≡ Some []) }
     ensures read_fault { IsErrOf result (RunError.Mail MailError.ReadFault) → Rose (S.faults src.old) (S.faults src.new) }
     ensures refused { IfErr result (λ e. (e ≡ RunError.Ended) ⊎ (e ≡ RunError.Mail MailError.ReadFault)) }
+    ensures no_fault { (IsErrOf result (RunError.Mail MailError.ReadFault) → ⊥) → S.faults src.new ≡ S.faults src.old }
     ensures faults { S.faults src.old ≤ S.faults src.new }
 {
     let mut byte = [0];
@@ -46,7 +47,7 @@ fn next_byte<S: Source>(src: &mut S) -> Result<u8, RunError>
     }
 }
 
-/// The bytes that an even number of digits spell.
+// The bytes that an even number of digits spell.
 fn decoded(alloc: Global, digits: &[u8]) -> Result<Vec<u8>, RunError>
     requires digits { AllPass is_hex_digit digits.now }
     requires even { length digits.now % 2 ≡ 0 }
@@ -59,7 +60,7 @@ fn decoded(alloc: Global, digits: &[u8]) -> Result<Vec<u8>, RunError>
     }
 }
 
-/// The bytes of the next line of digits: an even number of them, from `least` to `most`.
+// The bytes of the next line of digits: an even number of them, from `least` to `most`.
 fn next_line<S: Source>(
     alloc: Global,
     src: &mut S,
@@ -75,6 +76,7 @@ fn next_line<S: Source>(
     ensures read_fault { IsErrOf result (RunError.Mail MailError.ReadFault) → Rose (S.faults src.old) (S.faults src.new) }
     ensures place { IfErr result (λ e. (place : ℕ) → e ≡ RunError.Place place → place ≤ most) }
     ensures sized { IfOk result (λ bytes. (least ≤ 2 * length bytes.items) × (2 * length bytes.items ≤ most)) }
+    ensures no_fault { (IsErrOf result (RunError.Mail MailError.ReadFault) → ⊥) → S.faults src.new ≡ S.faults src.old }
     ensures faults { S.faults src.old ≤ S.faults src.new }
 {
     let mut digits = Vec::new(alloc);
@@ -93,9 +95,10 @@ fn next_line<S: Source>(
 
 /// The line of a seed.
 pub fn next_seed<S: Source>(alloc: Global, src: &mut S) -> Result<Seed, RunError>
-    ensures taken { Lost (S.left src.old) (S.left src.new) (InputTaken (IsLineText 128 128) (λ t seed. IsSeedLine t seed) result) }
+    ensures taken { Lost (S.left src.old) (S.left src.new) (InputTaken (IsLineText seed_digits seed_digits) (λ t seed. IsSeedLine t seed) result) }
     ensures ended { IsErrOf result RunError.Ended → IfSome (S.left src.old) (λ text. S.left src.new ≡ Some []) }
     ensures read_fault { IsErrOf result (RunError.Mail MailError.ReadFault) → Rose (S.faults src.old) (S.faults src.new) }
+    ensures no_fault { (IsErrOf result (RunError.Mail MailError.ReadFault) → ⊥) → S.faults src.new ≡ S.faults src.old }
     ensures faults { S.faults src.old ≤ S.faults src.new }
 {
     let bytes = next_line(alloc, src, SEED_DIGITS, SEED_DIGITS)?;
@@ -104,7 +107,7 @@ pub fn next_seed<S: Source>(alloc: Global, src: &mut S) -> Result<Seed, RunError
     Ok(seed)
 }
 
-/// The same refusal of an input that stands behind the line of a seed.
+// The same refusal of an input that stands behind the line of a seed.
 fn behind_seed(error: RunError) -> RunError
     requires { (place : ℕ) → error ≡ RunError.Place place → place < 2 ^ 32 }
     ensures { result ≡ behind 129 error }
@@ -121,6 +124,7 @@ pub fn next_head<S: Source>(alloc: Global, src: &mut S) -> Result<Head, RunError
         (λ t head. IsHead t head.seed head.info.items) result) }
     ensures ended { IsErrOf result RunError.Ended → IfSome (S.left src.old) (λ text. S.left src.new ≡ Some []) }
     ensures read_fault { IsErrOf result (RunError.Mail MailError.ReadFault) → Rose (S.faults src.old) (S.faults src.new) }
+    ensures no_fault { (IsErrOf result (RunError.Mail MailError.ReadFault) → ⊥) → S.faults src.new ≡ S.faults src.old }
     ensures faults { S.faults src.old ≤ S.faults src.new }
 {
     let seed = next_seed(alloc, src)?;

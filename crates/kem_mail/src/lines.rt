@@ -1,40 +1,33 @@
 //! Lines that a run writes. No call takes memory.
 
-ghost use Rattle.std.specs.Prelude.{◌≡◌, ◌≤◌, ◌∷◌, ◌++◌, [], length, decimal, OnErr, OnOk};
+ghost use Rattle.std.specs.Prelude.{◌≡◌, ◌≤◌, ◌∷◌, ◌++◌, [], length, decimal};
 ghost use Rattle.hex.specs.Hex.{encode_lower};
-ghost use Rattle.age_core.specs.Outside.{Rose, Gains, GainsPart};
-ghost use Rattle.kem_mail.specs.Lines.{lines, spaced, fault_line};
-ghost use Rattle.kem_mail.specs.Parts.{Hands};
+ghost use Rattle.age_core.specs.Outside.{Writes};
+ghost use Rattle.kem_mail.specs.Lines.{lines, spaced, fault_line, error_line};
+ghost use Rattle.kem_mail.specs.private.Telling.{Passes};
 
-use crate::list::MessageList;
+use crate::error::{MailError, RunError};
+use crate::list::ItemList;
 use crate::pending::{PIECE, Pending};
 use age_core::outside::{Failed, Sink, write_all};
 use itoa::Buffer;
 
-/// The most bytes whose digits are appended at once: a piece has room for them.
+// The most bytes whose digits are appended at once: a piece has room for them.
 const CHUNK: usize = PIECE / 2;
 
-/// Appends the digits of bytes, [`CHUNK`] at most, to what is next for the sink.
+// Appends the digits of bytes, [`CHUNK`] at most, to what is next for the sink.
 fn write_digits<W: Sink>(out: &mut W, pending: &mut Pending, bytes: &[u8]) -> Result<(), Failed>
     requires { length bytes.now ≤ CHUNK }
-    ensures written { OnOk result (Hands (W.got out.old) (W.got out.new) pending.old pending.new (encode_lower bytes.now)) }
-    ensures part { OnErr result (GainsPart (W.got out.old) (W.got out.new) pending.old) }
-    ensures failed { OnErr result (Rose (W.faults out.old) (W.faults out.new)) }
-    ensures plan { W.plan out.new ≡ W.plan out.old }
-    ensures faults { W.faults out.old ≤ W.faults out.new }
+    ensures { Passes W.got W.faults W.plan out.old out.new pending.old pending.new result (encode_lower bytes.now) }
 {
     pending.make_room(out, 2 * bytes.len())?;
     pending.push_digits(bytes);
     Ok(())
 }
 
-/// Appends the digits of an item, and a line feed, to what is next for the sink.
+// Appends the digits of an item, and a line feed, to what is next for the sink.
 fn write_line<W: Sink>(out: &mut W, pending: &mut Pending, item: &[u8]) -> Result<(), Failed>
-    ensures written { OnOk result (Hands (W.got out.old) (W.got out.new) pending.old pending.new (encode_lower item.now ++ 10 ∷ [])) }
-    ensures part { OnErr result (GainsPart (W.got out.old) (W.got out.new) (pending.old ++ (encode_lower item.now ++ 10 ∷ []))) }
-    ensures failed { OnErr result (Rose (W.faults out.old) (W.faults out.new)) }
-    ensures plan { W.plan out.new ≡ W.plan out.old }
-    ensures faults { W.faults out.old ≤ W.faults out.new }
+    ensures { Passes W.got W.faults W.plan out.old out.new pending.old pending.new result (encode_lower item.now ++ 10 ∷ []) }
 {
     let mut rest = item;
     while !rest.is_empty() {
@@ -48,12 +41,8 @@ fn write_line<W: Sink>(out: &mut W, pending: &mut Pending, item: &[u8]) -> Resul
 }
 
 /// Writes each item as a line.
-pub fn write_lines<W: Sink>(out: &mut W, items: &MessageList) -> Result<(), Failed>
-    ensures written { OnOk result (Gains (W.got out.old) (W.got out.new) (lines items.now)) }
-    ensures part { OnErr result (GainsPart (W.got out.old) (W.got out.new) (lines items.now)) }
-    ensures failed { OnErr result (Rose (W.faults out.old) (W.faults out.new)) }
-    ensures plan { W.plan out.new ≡ W.plan out.old }
-    ensures faults { W.faults out.old ≤ W.faults out.new }
+pub fn write_lines<W: Sink>(out: &mut W, items: &ItemList) -> Result<(), Failed>
+    ensures { Writes W.got W.faults W.plan out.old out.new result (lines items.now) }
 {
     let mut pending = Pending::new();
     for i in 0..items.len() {
@@ -65,26 +54,18 @@ pub fn write_lines<W: Sink>(out: &mut W, items: &MessageList) -> Result<(), Fail
     pending.hand_over(out)
 }
 
-/// Writes a space and a number in decimal.
+// Writes a space and a number in decimal.
 fn write_number<W: Sink>(out: &mut W, number: u64) -> Result<(), Failed>
-    ensures written { OnOk result (Gains (W.got out.old) (W.got out.new) (32 ∷ decimal number)) }
-    ensures part { OnErr result (GainsPart (W.got out.old) (W.got out.new) (32 ∷ decimal number)) }
-    ensures failed { OnErr result (Rose (W.faults out.old) (W.faults out.new)) }
-    ensures plan { W.plan out.new ≡ W.plan out.old }
-    ensures faults { W.faults out.old ≤ W.faults out.new }
+    ensures { Writes W.got W.faults W.plan out.old out.new result (32 ∷ decimal number) }
 {
     write_all(out, b" ")?;
     let mut buffer = Buffer::new();
     write_all(out, buffer.format(number).as_bytes())
 }
 
-/// Writes numbers in decimal, each behind a space.
+// Writes numbers in decimal, each behind a space.
 fn write_numbers<W: Sink>(out: &mut W, numbers: &[u64]) -> Result<(), Failed>
-    ensures written { OnOk result (Gains (W.got out.old) (W.got out.new) (spaced numbers.now)) }
-    ensures part { OnErr result (GainsPart (W.got out.old) (W.got out.new) (spaced numbers.now)) }
-    ensures failed { OnErr result (Rose (W.faults out.old) (W.faults out.new)) }
-    ensures plan { W.plan out.new ≡ W.plan out.old }
-    ensures faults { W.faults out.old ≤ W.faults out.new }
+    ensures { Writes W.got W.faults W.plan out.old out.new result (spaced numbers.now) }
 {
     for number in numbers {
         write_number(out, *number)?;
@@ -94,14 +75,42 @@ fn write_numbers<W: Sink>(out: &mut W, numbers: &[u64]) -> Result<(), Failed>
 
 /// Writes the line of a fault with its numbers.
 pub fn write_fault_line<W: Sink>(out: &mut W, name: &[u8], numbers: &[u64]) -> Result<(), Failed>
-    ensures written { OnOk result (Gains (W.got out.old) (W.got out.new) (fault_line name.now numbers.now)) }
-    ensures part { OnErr result (GainsPart (W.got out.old) (W.got out.new) (fault_line name.now numbers.now)) }
-    ensures failed { OnErr result (Rose (W.faults out.old) (W.faults out.new)) }
-    ensures plan { W.plan out.new ≡ W.plan out.old }
-    ensures faults { W.faults out.old ≤ W.faults out.new }
+    ensures { Writes W.got W.faults W.plan out.old out.new result (fault_line name.now numbers.now) }
 {
     write_all(out, b"! ")?;
     write_all(out, name)?;
     write_numbers(out, numbers)?;
     write_all(out, b"\n")
+}
+
+/// Writes the line of why a run wrote no items: nothing for want of memory and for a fault of the source.
+pub fn write_error<W: Sink>(out: &mut W, error: RunError) -> Result<(), Failed>
+    ensures { Writes W.got W.faults W.plan out.old out.new result (error_line error) }
+{
+    match error {
+        RunError::Place(place) => write_fault_line(out, b"head", &[place]),
+        RunError::Ended => write_fault_line(out, b"head ended", &[]),
+        RunError::Mail(error) => write_mail_error(out, error),
+    }
+}
+
+// The same of what is wrong with a mail.
+fn write_mail_error<W: Sink>(out: &mut W, error: MailError) -> Result<(), Failed>
+    ensures { Writes W.got W.faults W.plan out.old out.new result (error_line (RunError.Mail error)) }
+{
+    match error {
+        MailError::NoMemory => Ok(()),
+        MailError::ReadFault => Ok(()),
+        MailError::XofExhausted => write_fault_line(out, b"XofExhausted", &[]),
+        MailError::InvalidData => write_fault_line(out, b"InvalidData", &[]),
+        MailError::UnexpectedEof => write_fault_line(out, b"UnexpectedEof", &[]),
+        MailError::TooMuch => write_fault_line(out, b"TooMuch", &[]),
+        MailError::NotOneKem(count) => write_fault_line(out, b"NotOneKem", &[count]),
+        MailError::IncorrectInputLength(expected, given) => write_fault_line(
+            out,
+            b"IncorrectInputLength",
+            &[expected as u64, given as u64],
+        ),
+        MailError::OpenError(number) => write_fault_line(out, b"OpenError", &[number]),
+    }
 }

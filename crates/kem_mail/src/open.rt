@@ -2,13 +2,14 @@
 
 ghost use Rattle.std.specs.Prelude.{◌≡◌, ◌≢◌, ◌≤◌, ◌<◌, ◌^◌, ◌+◌, ◌⊎◌, ℕ, List, [], length, map, codes, Some, None, Ok, Err, Option, IfOk, IfErr, IfNone, IfSome, IsTrue, IsErrOf, OnOk};
 ghost use Rattle.std.specs.Option.{option_copied};
-ghost use Rattle.std.specs.Str.{bytes_eq};
 ghost use Rattle.age_core.specs.Outside.{Rose};
 ghost use Rattle.age_core.specs.Stanza.{stanza_of};
 ghost use Rattle.hpke.specs.Schedule.{Context, suite_of};
 ghost use Rattle.kem_mail.specs.Mail.{Opener, Opens, IsVerdict, Verdict, bodies, judged_bodies, open_at, opened, opener_of};
 ghost use Rattle.kem_mail.specs.Taken.{Lost, IsTaken};
-ghost use Rattle.kem_mail.specs.Parts.{IsKeyOf, IsRead, Judges, ReadTaken, of_phase};
+ghost use Rattle.kem_mail.specs.Causes.{of_phase};
+ghost use Rattle.kem_mail.specs.private.Answers.{IsKeyOf, Judges};
+ghost use Rattle.kem_mail.specs.private.Opening.{IsRead, ReadTaken};
 
 use crate::error::MailError;
 use crate::list::MessageList;
@@ -18,23 +19,16 @@ use age_core::plugin::{PhaseError, StanzaReader};
 use hpke::{Aead, AeadCtxR, Deserializable, HpkeError, Kdf, Kem, OpModeR, setup_receiver};
 use std::alloc::Global;
 
-/// The tag of the stanza whose body is the encapsulated key.
+// The tag of the stanza whose body is the encapsulated key.
 const KEM_TAG: &str = "kem";
 
-/// The tag of the stanzas whose bodies are sealed messages.
+// The tag of the stanzas whose bodies are sealed messages.
 const MESSAGE_TAG: &str = "msg";
 
-/// The tag of the stanza that ends a mail.
+// The tag of the stanza that ends a mail.
 const DONE_TAG: &str = "done";
 
-/// Whether a stanza has this tag.
-fn has_tag(stanza: &Stanza, tag: &str) -> bool
-    ensures { result ≡ bytes_eq (stanza_of stanza.now).tag tag.now }
-{
-    stanza.tag.as_str() == tag
-}
-
-/// The stanzas of a source before the first that ends a mail, among the first `budget` bytes.
+// The stanzas of a source before the first that ends a mail, among the first `budget` bytes.
 fn stanzas_before_done<S: Source>(
     alloc: Global,
     src: &mut S,
@@ -45,27 +39,28 @@ fn stanzas_before_done<S: Source>(
     ensures read_fault { IsErrOf result MailError.ReadFault → Rose (S.faults src.old) (S.faults src.new) }
     ensures taken { Lost (S.left src.old) (S.left src.new) (ReadTaken budget result) }
     ensures ended { IsErrOf result MailError.UnexpectedEof → IfSome (S.left src.old) (λ text. S.left src.new ≡ Some []) }
+    ensures no_fault { (IsErrOf result MailError.ReadFault → ⊥) → S.faults src.new ≡ S.faults src.old }
     ensures faults { S.faults src.old ≤ S.faults src.new }
 {
     let mut reader = StanzaReader::new(alloc, budget);
     let mut stanzas = Vec::new(alloc);
     loop {
         let stanza = reader.receive_from(src)?;
-        if has_tag(&stanza, DONE_TAG) {
+        if stanza.has_tag(DONE_TAG) {
             return Ok(stanzas);
         }
         stanzas.push(stanza)?;
     }
 }
 
-/// The body of the one stanza that holds an encapsulated key.
+// The body of the one stanza that holds an encapsulated key.
 fn key_body(stanzas: &[Stanza]) -> Result<&[u8], MailError>
     ensures { IsKeyOf (λ body. body.now) (bodies (codes "kem") (map stanza_of stanzas.now)) result }
 {
     let mut count: u64 = 0;
     let mut found: &[u8] = &[];
     for stanza in stanzas {
-        if has_tag(stanza, KEM_TAG) {
+        if stanza.has_tag(KEM_TAG) {
             count += 1;
             found = stanza.body.as_slice();
         }
@@ -77,7 +72,7 @@ fn key_body(stanzas: &[Stanza]) -> Result<&[u8], MailError>
     }
 }
 
-/// The encapsulated key that has these bytes. It is refused for another length than its own alone.
+// The encapsulated key that has these bytes. It is refused for another length than its own alone.
 fn key_from<K: Kem>(alloc: Global, encoded: &[u8]) -> Result<K::EncappedKey, MailError>
     ensures bytes { IfOk result (λ key. K.EncappedKey.bytes key ≡ encoded.now) }
     ensures size { OnOk result (length encoded.now ≡ K.EncappedKey.wire_size) }
@@ -93,7 +88,7 @@ fn key_from<K: Kem>(alloc: Global, encoded: &[u8]) -> Result<K::EncappedKey, Mai
     }
 }
 
-/// Opens the sealed messages of a list of stanzas, in order.
+// Opens the sealed messages of a list of stanzas, in order.
 fn open_messages<A: Aead, D: Kdf, K: Kem>(
     alloc: Global,
     ctx: &mut AeadCtxR<A, D, K>,
@@ -105,7 +100,7 @@ fn open_messages<A: Aead, D: Kdf, K: Kem>(
 {
     let mut messages = MessageList::new(alloc);
     for stanza in stanzas {
-        if has_tag(stanza, MESSAGE_TAG) {
+        if stanza.has_tag(MESSAGE_TAG) {
             match ctx.open(alloc, stanza.body.as_slice(), &[]) {
                 Ok(text) => messages.push(text)?,
                 Err(HpkeError::OpenError) => {
@@ -118,7 +113,7 @@ fn open_messages<A: Aead, D: Kdf, K: Kem>(
     Ok(messages)
 }
 
-/// What a list of stanzas comes to for the holder of a private key.
+// What a list of stanzas comes to for the holder of a private key.
 fn judge<'a, K: Kem, D: Kdf, A: Aead>(
     alloc: Global,
     sk: &'a K::PrivateKey,
@@ -153,7 +148,8 @@ fn judge<'a, K: Kem, D: Kdf, A: Aead>(
 /// `IncorrectInputLength`: with the length of an encapsulated key and that of the body. `OpenError`: with
 /// the number, from 0, of the first sealed message that doesn't open. `XofExhausted` never comes.
 ///
-/// At most `budget` bytes are taken, and at most 4095 behind the first `done`.
+/// At most `budget` bytes are taken, and at most 4095 behind the first `done`. `NoMemory` is free: it may
+/// come in the place of any answer.
 pub fn open_with<K: Kem, D: Kdf, A: Aead, S: Source>(
     alloc: Global,
     sk: &K::PrivateKey,
@@ -170,12 +166,14 @@ pub fn open_with<K: Kem, D: Kdf, A: Aead, S: Source>(
         (K.decap_of (K.PrivateKey.bytes sk.now) None) A.AeadImpl.open_of in
         IfSome (S.left src.old) (λ text. (verdict : Verdict) → Opens opener text budget verdict
         → (Rose (S.faults src.old) (S.faults src.new) → ⊥) → (result ≡ verdict) ⊎ (result ≡ Err MailError.NoMemory)) }
+    // The first fault of the source is the answer, and nothing is read behind it.
     ensures read_fault { IsErrOf result MailError.ReadFault → Rose (S.faults src.old) (S.faults src.new) }
     ensures has_key { result ≢ Err MailError.XofExhausted }
 
     // What was taken, and what of it held at each refusal.
     ensures taken { Lost (S.left src.old) (S.left src.new) (IsTaken budget result) }
     ensures ended { IsErrOf result MailError.UnexpectedEof → IfSome (S.left src.old) (λ text. S.left src.new ≡ Some []) }
+    ensures no_fault { (IsErrOf result MailError.ReadFault → ⊥) → S.faults src.new ≡ S.faults src.old }
     ensures faults { S.faults src.old ≤ S.faults src.new }
 {
     let stanzas = stanzas_before_done(alloc, src, budget)?;

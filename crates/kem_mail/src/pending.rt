@@ -1,15 +1,15 @@
 //! Bytes that are due and not yet handed to the sink: many short lines are handed over at once. No call
 //! takes memory.
 
-ghost use Rattle.std.specs.Prelude.{◌≡◌, ◌≤◌, ◌+◌, ◌*◌, ◌++◌, ◌∷◌, [], length, OnErr, OnOk};
+ghost use Rattle.std.specs.Prelude.{◌≡◌, ◌≤◌, ◌+◌, ◌*◌, ◌++◌, ◌∷◌, [], length, OnOk};
 ghost use Rattle.hex.specs.Hex.{encode_lower};
-ghost use Rattle.age_core.specs.Outside.{Rose, Gains, GainsPart};
-ghost use Rattle.kem_mail.specs.Parts.{Hands};
+ghost use Rattle.age_core.specs.Outside.{Writes};
+ghost use Rattle.kem_mail.specs.private.Telling.{Passes};
 
 use age_core::outside::{Failed, Sink, write_all};
 use std::marker::Model;
 
-/// The most bytes that are handed over at once.
+// The most bytes that are handed over at once.
 pub const PIECE: usize = 4096;
 
 /// The bytes that are next for the sink, [`PIECE`] at most.
@@ -30,6 +30,7 @@ impl Model for Pending {
 }
 
 impl Pending {
+    // Nothing yet.
     pub fn new() -> Pending
         ensures { result ≡ [] }
     {
@@ -39,29 +40,21 @@ impl Pending {
         }
     }
 
-    /// Hands all over.
+    // Hands all over.
     pub fn hand_over<W: Sink>(&mut self, out: &mut W) -> Result<(), Failed>
-        ensures written { OnOk result (Gains (W.got out.old) (W.got out.new) self.old) }
+        ensures written { Writes W.got W.faults W.plan out.old out.new result self.old }
         ensures nothing { OnOk result (self.new ≡ []) }
-        ensures part { OnErr result (GainsPart (W.got out.old) (W.got out.new) self.old) }
-        ensures failed { OnErr result (Rose (W.faults out.old) (W.faults out.new)) }
-        ensures plan { W.plan out.new ≡ W.plan out.old }
-        ensures faults { W.faults out.old ≤ W.faults out.new }
     {
         write_all(out, &self.bytes[..self.len])?;
         self.len = 0;
         Ok(())
     }
 
-    /// Makes room for so many bytes, [`PIECE`] at most: where there is none, it hands all over.
+    // Makes room for so many bytes, [`PIECE`] at most: where there is none, it hands all over.
     pub fn make_room<W: Sink>(&mut self, out: &mut W, count: usize) -> Result<(), Failed>
         requires { count ≤ PIECE }
-        ensures handed { OnOk result (Hands (W.got out.old) (W.got out.new) self.old self.new []) }
+        ensures handed { Passes W.got W.faults W.plan out.old out.new self.old self.new result [] }
         ensures room { OnOk result (length self.new + count ≤ PIECE) }
-        ensures part { OnErr result (GainsPart (W.got out.old) (W.got out.new) self.old) }
-        ensures failed { OnErr result (Rose (W.faults out.old) (W.faults out.new)) }
-        ensures plan { W.plan out.new ≡ W.plan out.old }
-        ensures faults { W.faults out.old ≤ W.faults out.new }
     {
         if PIECE - self.len < count {
             self.hand_over(out)?;
@@ -69,7 +62,7 @@ impl Pending {
         Ok(())
     }
 
-    /// Appends the lower-case hexadecimal digits of bytes, for which there is room.
+    // Appends the lower-case hexadecimal digits of bytes, for which there is room.
     pub fn push_digits(&mut self, bytes: &[u8])
         requires { length self.old + 2 * length bytes.now ≤ PIECE }
         ensures { self.new ≡ self.old ++ encode_lower bytes.now }
@@ -81,7 +74,7 @@ impl Pending {
         self.len = end;
     }
 
-    /// Appends a byte, for which there is room.
+    // Appends a byte, for which there is room.
     pub fn push(&mut self, byte: u8)
         requires { length self.old + 1 ≤ PIECE }
         ensures { self.new ≡ self.old ++ byte ∷ [] }

@@ -1,48 +1,49 @@
 //! A run of the program.
 
-ghost use Rattle.std.specs.Prelude.{◌≡◌, ◌≤◌, ◌⊎◌, ◌∷◌, ℕ, List, [], map, IfSome, IsErrOf};
+ghost use Rattle.std.specs.Prelude.{◌≡◌, ◌≢◌, ◌≤◌, ◌⊎◌, ◌∷◌, ℕ, List, [], map, Err, IfSome};
 ghost use Rattle.std.specs.String.{string_bytes};
 ghost use Rattle.age_core.specs.Outside.{Rose, Gains, GainsPart};
-ghost use Rattle.gcm_core.specs.Gcm.{open_of};
 ghost use Rattle.ml_kem.specs.Keys.{key_of};
-ghost use Rattle.kem_mail.specs.Command.{Spells, parameters, kdf_algorithm, aead_algorithm};
-ghost use Rattle.kem_mail.specs.Due.{Due, IsAnswer, key_verdict, no_command_line};
-ghost use Rattle.kem_mail.specs.Lines.{lines, fault_line};
+ghost use Rattle.kem_mail.specs.Command.{Spells, parameters, kdf_algorithm, aead_algorithm, aead_open};
+ghost use Rattle.kem_mail.specs.Due.{Due, IsAnswer, Outcome, key_verdict, outcome_status, outcome_output};
+ghost use Rattle.kem_mail.specs.Lines.{lines, error_line, no_command_line};
 ghost use Rattle.kem_mail.specs.Mail.{Verdict};
-ghost use Rattle.kem_mail.specs.Taken.{Lost, RunTakes, FaultTakes};
-ghost use Rattle.kem_mail.specs.Parts.{IsErrorTold, IsOpened, IsRefused, IsTold, Judges, RunComes};
+ghost use Rattle.kem_mail.specs.Taken.{Lost, MostTakes, Takes};
+ghost use Rattle.kem_mail.specs.Run.{CameTo, IsTold};
+ghost use Rattle.kem_mail.specs.private.Answers.{Judges};
+ghost use Rattle.kem_mail.specs.private.Opening.{IsOpened};
 
+use crate::by_seed::open_mail;
 use crate::command::{AeadName, Command, KdfName, SetName, SuiteName, command_of};
 use crate::error::{MailError, RunError};
 use crate::input::{Head, next_head, next_seed};
-use crate::lines::{write_fault_line, write_lines};
-use crate::list::MessageList;
-use crate::mail::open_mail;
+use crate::lines::{write_error, write_fault_line, write_lines};
+use crate::list::{ItemList, MessageList};
 use age_core::outside::{Failed, Sink, Source};
 use hpke::{AesGcm128, AesGcm256, HkdfSha256, HkdfSha384, HkdfSha512, Kdf};
 use kem_hash::KemHash;
 use ml_kem::{DecapsulationKey, MlKem512, MlKem768, MlKem1024, ParameterSet, Seed};
 use std::alloc::Global;
 
-/// The status of a run that did what its command says.
+// The status of a run that did what its command says.
 const DONE: u8 = 0;
 
-/// The status of a run whose words spell no command.
+// The status of a run whose words spell no command.
 const NO_COMMAND: u8 = 2;
 
-/// The status of a run whose input, mail or key is at fault.
+// The status of a run whose input, mail or key is at fault.
 const REFUSED: u8 = 3;
 
-/// The status of a run whose source failed.
+// The status of a run whose source failed.
 const READ_FAULT: u8 = 4;
 
-/// The status of a run whose sink failed.
+// The status of a run whose sink failed.
 const WRITE_FAULT: u8 = 5;
 
-/// The status of a run that found no memory.
+// The status of a run that found no memory.
 const NO_MEMORY: u8 = 6;
 
-/// Opens the mail behind a head, by a set, a KDF and an AEAD.
+// Opens the mail behind a head, by a set, a KDF and an AEAD.
 fn open_aead<P: ParameterSet, H: KemHash, D: Kdf, S: Source>(
     alloc: Global,
     aead: AeadName,
@@ -50,8 +51,8 @@ fn open_aead<P: ParameterSet, H: KemHash, D: Kdf, S: Source>(
     src: &mut S,
     budget: u64,
 ) -> Result<MessageList, MailError>
-    ensures opened { IsOpened P.set H.family D.kdf (aead_algorithm aead) open_of head.now.seed head.now.info.items budget
-        (S.left src.old) (S.left src.new) (Rose (S.faults src.old) (S.faults src.new)) result }
+    ensures opened { IsOpened P.set H.family D.kdf (aead_algorithm aead) (aead_open aead) head.now.seed head.now.info.items budget
+        (S.left src.old) (S.left src.new) (S.faults src.old) (S.faults src.new) result }
     ensures faults { S.faults src.old ≤ S.faults src.new }
 {
     match aead {
@@ -64,7 +65,7 @@ fn open_aead<P: ParameterSet, H: KemHash, D: Kdf, S: Source>(
     }
 }
 
-/// The same by the names of the KDF and the AEAD.
+// The same by the names of the KDF and the AEAD.
 fn open_kdf<P: ParameterSet, H: KemHash, S: Source>(
     alloc: Global,
     kdf: KdfName,
@@ -73,8 +74,8 @@ fn open_kdf<P: ParameterSet, H: KemHash, S: Source>(
     src: &mut S,
     budget: u64,
 ) -> Result<MessageList, MailError>
-    ensures opened { IsOpened P.set H.family (kdf_algorithm kdf) (aead_algorithm aead) open_of head.now.seed head.now.info.items budget
-        (S.left src.old) (S.left src.new) (Rose (S.faults src.old) (S.faults src.new)) result }
+    ensures opened { IsOpened P.set H.family (kdf_algorithm kdf) (aead_algorithm aead) (aead_open aead) head.now.seed head.now.info.items budget
+        (S.left src.old) (S.left src.new) (S.faults src.old) (S.faults src.new) result }
     ensures faults { S.faults src.old ≤ S.faults src.new }
 {
     match kdf {
@@ -84,7 +85,7 @@ fn open_kdf<P: ParameterSet, H: KemHash, S: Source>(
     }
 }
 
-/// The same by the name of a suite.
+// The same by the name of a suite.
 fn open_suite<H: KemHash, S: Source>(
     alloc: Global,
     suite: SuiteName,
@@ -92,8 +93,8 @@ fn open_suite<H: KemHash, S: Source>(
     src: &mut S,
     budget: u64,
 ) -> Result<MessageList, MailError>
-    ensures opened { IsOpened (parameters suite.set) H.family (kdf_algorithm suite.kdf) (aead_algorithm suite.aead) open_of head.now.seed head.now.info.items budget
-        (S.left src.old) (S.left src.new) (Rose (S.faults src.old) (S.faults src.new)) result }
+    ensures opened { IsOpened (parameters suite.set) H.family (kdf_algorithm suite.kdf) (aead_algorithm suite.aead) (aead_open suite.aead)
+        head.now.seed head.now.info.items budget (S.left src.old) (S.left src.new) (S.faults src.old) (S.faults src.new) result }
     ensures faults { S.faults src.old ≤ S.faults src.new }
 {
     let (kdf, aead) = (suite.kdf, suite.aead);
@@ -104,7 +105,7 @@ fn open_suite<H: KemHash, S: Source>(
     }
 }
 
-/// The encapsulation key of a seed.
+// The encapsulation key of a seed.
 fn public_key<P: ParameterSet, H: KemHash>(alloc: Global, seed: &Seed) -> Result<Vec<u8>, MailError>
     ensures { Judges (λ bytes. bytes.items ∷ []) result (key_verdict (key_of P.set H.family seed.now)) }
 {
@@ -113,7 +114,7 @@ fn public_key<P: ParameterSet, H: KemHash>(alloc: Global, seed: &Seed) -> Result
     Ok(bytes)
 }
 
-/// The same by the name of a set.
+// The same by the name of a set.
 fn public_key_of<H: KemHash>(alloc: Global, set: SetName, seed: &Seed) -> Result<Vec<u8>, MailError>
     ensures { Judges (λ bytes. bytes.items ∷ []) result (key_verdict (key_of (parameters set) H.family seed.now)) }
 {
@@ -124,94 +125,65 @@ fn public_key_of<H: KemHash>(alloc: Global, set: SetName, seed: &Seed) -> Result
     }
 }
 
-/// What a command comes to: the items that it writes.
+// What a command ends with: the items that it writes, or why it writes none.
 fn items_of<H: KemHash, S: Source>(
     alloc: Global,
     command: Command,
     src: &mut S,
-) -> Result<MessageList, RunError>
-    ensures comes_to { IfSome (S.left src.old) (λ text. RunComes H.family command text result) }
-    ensures read_fault { IsErrOf result (RunError.Mail MailError.ReadFault) → Rose (S.faults src.old) (S.faults src.new) }
-    ensures read_part { IsErrOf result (RunError.Mail MailError.ReadFault)
-        → Lost (S.left src.old) (S.left src.new) (FaultTakes H.family command) }
-    ensures taken { Lost (S.left src.old) (S.left src.new) (RunTakes command) }
+) -> Result<ItemList, RunError>
+    ensures came { CameTo H.family command (S.left src.old) (S.left src.new) (S.faults src.old) (S.faults src.new) result }
     ensures faults { S.faults src.old ≤ S.faults src.new }
 {
     match command {
         Command::Open(suite, budget) => {
             let head = next_head(alloc, src)?;
             let messages = open_suite::<H, S>(alloc, suite, &head, src, budget)?;
-            Ok(messages)
+            Ok(messages.into_items())
         }
         Command::Key(set) => {
             let seed = next_seed(alloc, src)?;
             let key = public_key_of::<H>(alloc, set, &seed)?;
-            let mut items = MessageList::new(alloc);
+            let mut items = ItemList::new(alloc);
             items.push(key)?;
             Ok(items)
         }
     }
 }
 
-/// Writes the line of a fault, and answers the status of the run: the given one, or that of a sink that
-/// failed.
-fn tell<W: Sink>(out: &mut W, name: &[u8], numbers: &[u64], status: u8) -> u8
-    ensures told { IsTold result status (W.faults out.old) (W.faults out.new) (W.got out.old) (W.got out.new) (fault_line name.now numbers.now) }
-    ensures plan { W.plan out.new ≡ W.plan out.old }
-    ensures faults { W.faults out.old ≤ W.faults out.new }
-{
-    match write_fault_line(out, name, numbers) {
-        Ok(()) => status,
-        Err(Failed) => WRITE_FAULT,
-    }
-}
-
-/// Writes the items of a command, and answers the status of the run.
-fn tell_items<W: Sink>(out: &mut W, items: &MessageList) -> u8
-    ensures told { IsTold result 0 (W.faults out.old) (W.faults out.new) (W.got out.old) (W.got out.new) (lines items.now) }
-    ensures plan { W.plan out.new ≡ W.plan out.old }
-    ensures faults { W.faults out.old ≤ W.faults out.new }
-{
-    match write_lines(out, items) {
-        Ok(()) => DONE,
-        Err(Failed) => WRITE_FAULT,
-    }
-}
-
-/// Writes the line of what is wrong with a mail, and answers the status of the run.
-fn tell_error<W: Sink>(out: &mut W, error: MailError) -> u8
-    ensures told { IsErrorTold error result (W.faults out.old) (W.faults out.new) (W.got out.old) (W.got out.new) }
-    ensures plan { W.plan out.new ≡ W.plan out.old }
-    ensures faults { W.faults out.old ≤ W.faults out.new }
-{
-    match error {
-        MailError::NoMemory => NO_MEMORY,
-        MailError::ReadFault => READ_FAULT,
-        MailError::XofExhausted => tell(out, b"XofExhausted", &[], REFUSED),
-        MailError::InvalidData => tell(out, b"InvalidData", &[], REFUSED),
-        MailError::UnexpectedEof => tell(out, b"UnexpectedEof", &[], REFUSED),
-        MailError::TooMuch => tell(out, b"TooMuch", &[], REFUSED),
-        MailError::NotOneKem(count) => tell(out, b"NotOneKem", &[count], REFUSED),
-        MailError::IncorrectInputLength(expected, given) => tell(
-            out,
-            b"IncorrectInputLength",
-            &[expected as u64, given as u64],
-            REFUSED,
-        ),
-        MailError::OpenError(number) => tell(out, b"OpenError", &[number], REFUSED),
-    }
-}
-
-/// Answers the status of a run that wrote no items, and writes the line that is due for it.
+// Answers the status of a run that wrote no items, and writes the line that is due for it.
 fn refuse<W: Sink>(out: &mut W, error: RunError) -> u8
-    ensures told { IsRefused error result (W.faults out.old) (W.faults out.new) (W.got out.old) (W.got out.new) }
-    ensures plan { W.plan out.new ≡ W.plan out.old }
-    ensures faults { W.faults out.old ≤ W.faults out.new }
+    ensures { IsTold W.got W.faults W.plan out.old out.new result (outcome_status (Err error)) (error_line error) }
 {
     match error {
-        RunError::Place(place) => tell(out, b"head", &[place], REFUSED),
-        RunError::Ended => tell(out, b"head ended", &[], REFUSED),
-        RunError::Mail(error) => tell_error(out, error),
+        RunError::Mail(MailError::NoMemory) => NO_MEMORY,
+        RunError::Mail(MailError::ReadFault) => READ_FAULT,
+        other => match write_error(out, other) {
+            Ok(()) => REFUSED,
+            Err(Failed) => WRITE_FAULT,
+        },
+    }
+}
+
+// Writes what a command ended with, and answers the status of the run.
+fn tell<W: Sink>(out: &mut W, outcome: Result<ItemList, RunError>) -> u8
+    ensures { IsTold W.got W.faults W.plan out.old out.new result (outcome_status outcome) (outcome_output outcome) }
+{
+    match outcome {
+        Ok(items) => match write_lines(out, &items) {
+            Ok(()) => DONE,
+            Err(Failed) => WRITE_FAULT,
+        },
+        Err(error) => refuse(out, error),
+    }
+}
+
+// Writes the line of words that spell no command, and answers the status of the run.
+fn tell_no_command<W: Sink>(out: &mut W) -> u8
+    ensures { IsTold W.got W.faults W.plan out.old out.new result 2 no_command_line }
+{
+    match write_fault_line(out, b"words", &[]) {
+        Ok(()) => NO_COMMAND,
+        Err(Failed) => WRITE_FAULT,
     }
 }
 
@@ -240,14 +212,17 @@ pub fn mail_main<H: KemHash, S: Source, W: Sink>(
     // What was written is what is due.
     ensures answered { IfSome (S.left src.old) (λ text. IsAnswer result → (output : List ℕ)
         × Due H.family (map string_bytes words.now) text result output × Gains (W.got out.old) (W.got out.new) output) }
+    ensures fault_told { result ≡ 3 → (error : RunError) × (outcome_status (Err error) ≡ 3) × Gains (W.got out.old) (W.got out.new) (error_line error) }
 
-    // A fault of the source, and nothing written; and what was taken before it.
+    // A fault of the source, exactly where its count rose, with nothing written; and what was taken before it.
     ensures read_fault { result ≡ 4 → Rose (S.faults src.old) (S.faults src.new) × Gains (W.got out.old) (W.got out.new) [] }
+    ensures no_read_fault { result ≢ 4 → S.faults src.new ≡ S.faults src.old }
     ensures read_part { result ≡ 4 → (command : Command) × Spells (map string_bytes words.now) command
-        × Lost (S.left src.old) (S.left src.new) (FaultTakes H.family command) }
+        × Lost (S.left src.old) (S.left src.new) (Takes H.family command (Err (RunError.Mail MailError.ReadFault))) }
 
-    // A fault of the sink, and a front of what is due.
+    // A fault of the sink, exactly where its count rose, with a front of what is due.
     ensures write_fault { result ≡ 5 → Rose (W.faults out.old) (W.faults out.new) }
+    ensures no_write_fault { result ≢ 5 → W.faults out.new ≡ W.faults out.old }
     ensures write_part { IfSome (S.left src.old) (λ text. result ≡ 5 → (status : ℕ) × (output : List ℕ)
         × Due H.family (map string_bytes words.now) text status output × GainsPart (W.got out.old) (W.got out.new) output) }
 
@@ -265,9 +240,13 @@ pub fn mail_main<H: KemHash, S: Source, W: Sink>(
         → Due H.family (map string_bytes words.now) text status output → (Rose (S.faults src.old) (S.faults src.new) → ⊥)
         → (Rose (W.faults out.old) (W.faults out.new) → ⊥) → (result ≡ status) ⊎ (result ≡ 6)) }
 
-    // What was taken: nothing behind the byte that decides on the input, and of a mail at most the budget.
-    ensures taken { (command : Command) → Spells (map string_bytes words.now) command
-        → Lost (S.left src.old) (S.left src.new) (RunTakes command) }
+    // What a command ended with, which was told: it decides on what was taken, and whether the source is at its end.
+    ensures taken { (command : Command) → Spells (map string_bytes words.now) command → (outcome : Outcome)
+        × CameTo H.family command (S.left src.old) (S.left src.new) (S.faults src.old) (S.faults src.new) outcome
+        × IsTold W.got W.faults W.plan out.old out.new result (outcome_status outcome) (outcome_output outcome) }
+    // So nothing is taken behind the byte that decides on the input, and of a mail at most the budget.
+    ensures within { (command : Command) → Spells (map string_bytes words.now) command
+        → Lost (S.left src.old) (S.left src.new) (MostTakes command) }
 
     ensures no_other { IsAnswer result ⊎ ((result ≡ 4) ⊎ ((result ≡ 5) ⊎ (result ≡ 6))) }
     ensures source_faults { S.faults src.old ≤ S.faults src.new }
@@ -275,10 +254,8 @@ pub fn mail_main<H: KemHash, S: Source, W: Sink>(
     ensures plan { W.plan out.new ≡ W.plan out.old }
 {
     let Some(command) = command_of(words) else {
-        return tell(out, b"words", &[], NO_COMMAND);
+        return tell_no_command(out);
     };
-    match items_of::<H, S>(alloc, command, src) {
-        Ok(items) => tell_items(out, &items),
-        Err(error) => refuse(out, error),
-    }
+    let outcome = items_of::<H, S>(alloc, command, src);
+    tell(out, outcome)
 }

@@ -1,8 +1,10 @@
-use Rattle.std.proofs.Common.{◌≡◌, ◌≢◌, ◌≤◌, ◌%◌, ◌++◌, ◌⊎◌, ℕ, true, [], ◌∷◌, length, inl, inr, sym, ◌∙◌, arith, Vec, Global}
+use Rattle.std.proofs.Common.{◌≡◌, ◌≢◌, ◌≤◌, ◌%◌, ◌++◌, ◌⊎◌, ℕ, true, [], ◌∷◌, length, Err, inl, inr, ap, sym, ◌∙◌, arith, Vec, Global}
 use Rattle.std.proofs.lemmas.List.{length_push}
 use Rattle.std.proofs.lemmas.Result.{err_from_is_err_and}
 use Rattle.hex.specs.Hex.{is_hex_digit}
 use Rattle.kem_mail.specs.Input.{IsLine}
+use Rattle.kem_mail.specs.declared.error.MailError.TheVariants.{ReadFault}
+use Rattle.kem_mail.specs.declared.error.RunError.TheVariants.{Mail}
 use Rattle.kem_mail.proofs.Inputs.{Lost_then, line_ended, line_memory, line_fails, line_decoded, line_sized, digit_from_ascii, no_digit_from_ascii, digits_pushed}
 use Rattle.kem_mail.proofs.input.next_line.Goals as goal
 use Rattle.kem_mail.proofs.input.next_line.Goals.{else-byte-eq10-via-then-byte-eq10+then-count-least+else-count-eq0, else-byte-eq10-via-then-byte-eq10+else-count-least, else-byte-eq10-via-else-byte-eq10}
@@ -64,7 +66,7 @@ loop-digits-preserved g c =
       taken = rw items (Lost_then (left c.args.src.now) (left c.loop-digits.src) (left c.next_byte.new.src) (λ t. t ≡ ds) (λ t. t ≡ b ∷ []) (λ t. t ≡ ds ++ b ∷ []) inv.taken c.in_ok-byte.ensures.taken (λ a c p q. cc));
       all = rw items (digits_pushed ds b inv.all digit);
       within = rw items (omega (arith, length_push ds b, c.loop-digits.digits.ok.0, c.len-count.ensures, c.if-count-most.false));
-      faults = omega (arith, inv.faults, c.in_ok-byte.ensures.faults);
+      no_fault = c.in_ok-byte.ensures.no_fault (λ e. cc e) ∙ inv.no_fault;
     }
 
 pub returns-in_err-push-clause-taken : goal.returns-in_err-push-clause-taken
@@ -75,3 +77,17 @@ returns-in_err-push-clause-taken g c =
     rw (p.1, p.2)
     (line_memory (left c.args.src.now) (left c.loop-digits.src) (left c.next_byte.new.src) c.args.least c.args.most c.loop-digits.digits.items
     c.requires.range c.requires.even inv.within inv.all c.in_ok-byte.byte inv.taken c.in_ok-byte.ensures.taken)
+
+pub returns-in_err-byte-clause-no_fault : goal.returns-in_err-byte-clause-no_fault
+returns-in_err-byte-clause-no_fault g c = λ not.
+    let p = err_from_is_err_and c.from_residual.result c.from_residual.ensures.1 in
+    c.in_err-byte.ensures.no_fault (λ e. let same : c.in_err-byte.field-0.0 ≡ Mail ReadFault = cc e in not (p.1 ∙ ap Err (p.2 ∙ same))) ∙ c.loop-digits.invariant.no_fault
+
+pub returns-then-count-eq0-clause-no_fault : goal.returns-then-count-eq0-clause-no_fault
+returns-then-count-eq0-clause-no_fault g c = λ not. c.in_ok-byte.ensures.no_fault (λ e. cc e) ∙ c.loop-digits.invariant.no_fault
+
+pub returns-then-count-most-clause-no_fault : goal.returns-then-count-most-clause-no_fault
+returns-then-count-most-clause-no_fault g c = λ not. c.in_ok-byte.ensures.no_fault (λ e. cc e) ∙ c.loop-digits.invariant.no_fault
+
+pub returns-in_err-push-clause-no_fault : goal.returns-in_err-push-clause-no_fault
+returns-in_err-push-clause-no_fault g c = λ not. c.in_ok-byte.ensures.no_fault (λ e. cc e) ∙ c.loop-digits.invariant.no_fault

@@ -10,7 +10,7 @@ invariant-loop-digits g l = record {
   taken : Lost (g.S.Source.left l.fn.src) (g.S.Source.left l.src) (λ bytes. bytes ≡ l.digits.items);
   all : AllPass is_hex_digit l.digits.items;
   within : length l.digits.items ≤ l.most;
-  faults : g.S.Source.faults l.fn.src ≤ g.S.Source.faults l.src;
+  no_fault : g.S.Source.faults l.src ≡ g.S.Source.faults l.fn.src;
 }
 
 abbrev pub decreases-loop-digits : goal.decreases-loop-digits

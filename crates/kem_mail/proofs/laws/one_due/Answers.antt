@@ -1,4 +1,4 @@
-use Rattle.kem_mail.proofs.Dues.{same_due}
+use Rattle.kem_mail.proofs.Dues.{due_answer, same_due}
 use Rattle.kem_mail.proofs.laws.one_due.Goals as goal
 
 pub returns-clause-status : goal.returns-clause-status
@@ -6,3 +6,6 @@ returns-clause-status c = λ family words text one other output another d e. (sa
 
 pub returns-clause-output : goal.returns-clause-output
 returns-clause-output c = λ family words text one other output another d e. (same_due family words text one other output another d e).1
+
+pub returns-clause-answer : goal.returns-clause-answer
+returns-clause-answer c = due_answer

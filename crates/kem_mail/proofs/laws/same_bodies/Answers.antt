@@ -1,10 +1,13 @@
-use Rattle.std.proofs.Common.{refl, sym, subst}
-use Rattle.age_core.specs.Reading.{Before_done}
-use Rattle.kem_mail.specs.Mail.{Opens, Verdict, judged}
+use Rattle.kem_mail.proofs.Dues.{same_bodies_by_key, same_bodies_due}
 use Rattle.kem_mail.proofs.Verdicts.{same_bodies_verdict}
 use Rattle.kem_mail.proofs.laws.same_bodies.Goals as goal
 
-pub returns : goal.returns
-returns c = λ opener text other budget limit stanzas others verdict reads reads' kems messages opens.
-    let there : Opens opener other limit (judged opener (Before_done others)) = record { reading = Before_done others; reads = reads'; verdict_is = refl } in
-    subst (λ (v : Verdict). Opens opener other limit v) (sym (same_bodies_verdict opener text other budget limit stanzas others verdict _ reads reads' kems messages opens there)) there
+pub returns-clause-opens : goal.returns-clause-opens
+returns-clause-opens c = λ opener text other budget limit verdict same opens. same_bodies_verdict opener text other budget limit verdict same opens
+
+pub returns-clause-by_key : goal.returns-clause-by_key
+returns-clause-by_key c = λ set family kdf aead open_of seed info text other budget limit verdict same opens. same_bodies_by_key set family kdf aead open_of seed info text other budget limit verdict same opens
+
+pub returns-clause-due : goal.returns-clause-due
+returns-clause-due c = λ family suite budget limit words others head text other status output spelled spells is same due.
+    same_bodies_due family suite budget limit head text other is same words others status output spelled spells due

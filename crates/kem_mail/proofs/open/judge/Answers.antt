@@ -3,7 +3,7 @@ use Rattle.std.specs.Prelude.{codes}
 use Rattle.age_core.specs.Stanza.{stanza_of}
 use Rattle.hpke.specs.Schedule.{suite_of}
 use Rattle.kem_mail.specs.Mail.{Opener, Verdict, bodies, open_at, opener_of}
-use Rattle.kem_mail.specs.Parts.{Judges}
+use Rattle.kem_mail.specs.private.Answers.{Judges}
 use Rattle.kem_mail.proofs.Verdicts.{judged_one, opened_has_key}
 use Rattle.kem_mail.proofs.open.judge.Goals as goal
 

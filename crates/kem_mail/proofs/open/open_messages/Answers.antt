@@ -1,4 +1,4 @@
-use Rattle.std.proofs.Common.{◌+◌, ℕ, length, drop, map, Vec, Global, sym, ap, subst, ◌∙◌, arith}
+use Rattle.std.proofs.Common.{◌+◌, ℕ, length, drop, map, Vec, Global, inr, sym, ap, subst, ◌∙◌, arith}
 use Rattle.std.specs.Prelude.{codes, Err}
 use Rattle.std.proofs.lemmas.List.{length_push}
 use Rattle.age_core.specs.Stanza.{stanza_of}
@@ -73,4 +73,4 @@ returns-in-Err-OpenError g c =
     let hit = bodies_from-hit (codes "msg") stanzas i stanza (omega arith) c.stanza-item.is (sym c.has_tag.ensures ∙ c.if-has_tag.true) in
     let none = opens-none aead.open_of aead.TAG_SIZE c.args.ctx.now (length messages) sealed (λ (text : Vec ℕ Global). text.items) (sealed_law aead.open_of aead.seal_of aead.TAG_SIZE laws.opens_what_was_sealed laws.sealed_size)
     c.loop-stanza.ctx c.open.result inv.at (c.in-Err-OpenError.is ∙ ap Err c.in-Err-OpenError.field-0-is) (rw c.as_slice.ensures.value at c.open.ensures.value) in
-    rw c.len.ensures (progress-refused meaning all messages sealed later (subst (Progress meaning all messages) hit inv.opened) none)
+    rw c.len.ensures (inr (progress-refused meaning all messages sealed later (subst (Progress meaning all messages) hit inv.opened) none))

@@ -6,7 +6,7 @@ use Rattle.age_core.specs.Reading.{Before_done}
 use Rattle.age_core.specs.declared.format.Stanza.{Stanza as HeldStanza}
 use Rattle.hpke.specs.Schedule.{suite_of}
 use Rattle.kem_mail.specs.Mail.{Opener, opener_of, judged}
-use Rattle.kem_mail.specs.Parts.{Judges}
+use Rattle.kem_mail.specs.private.Answers.{Judges}
 use Rattle.kem_mail.proofs.Verdicts.{refused_opens, refused_complete, done_opens, done_complete, done_no_fault, done_not_ended, done_taken}
 use Rattle.kem_mail.proofs.open.open_with.Goals as goal
 

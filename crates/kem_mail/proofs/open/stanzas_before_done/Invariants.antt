@@ -1,4 +1,4 @@
-use Rattle.std.proofs.Common.{◌≤◌, ◌+◌, length, map}
+use Rattle.std.proofs.Common.{◌≡◌, ◌+◌, length, map}
 use Rattle.age_core.specs.Stanza.{stanza_of}
 use Rattle.kem_mail.proofs.Takings.{Given}
 use Rattle.kem_mail.proofs.open.stanzas_before_done.Given as goal
@@ -9,7 +9,7 @@ invariant-loop-stanzas g l =
     let left = g.S.Source.left in
     record {
       given : Given l.fn.budget l.reader (left l.fn.src) (left l.src) (map stanza_of l.stanzas.items);
-      faults : g.S.Source.faults l.fn.src ≤ g.S.Source.faults l.src;
+      no_fault : g.S.Source.faults l.src ≡ g.S.Source.faults l.fn.src;
     }
 
 abbrev pub decreases-loop-stanzas : goal.decreases-loop-stanzas

@@ -1,80 +1,63 @@
-use Rattle.std.proofs.Common.{◌≡◌, ℕ, List, Err, sym, ap, subst, ◌∙◌}
-use Rattle.std.specs.Prelude.{IfSome}
+use Rattle.std.proofs.Common.{◌∷◌, [], Err, Ok, refl, inl, inr, sym, ap}
 use Rattle.std.proofs.lemmas.Result.{err_from_is_err_and}
-use Rattle.kem_mail.specs.Input.{IsHead, IsSeedLine}
-use Rattle.kem_mail.specs.Taken.{Lost, IsTaken}
-use Rattle.kem_mail.specs.Parts.{RunComes}
-use Rattle.kem_mail.specs.declared.command.Command.{Command}
 use Rattle.kem_mail.specs.declared.command.Command.TheVariants.{Open, Key}
-use Rattle.kem_mail.specs.declared.input.Head.{Head}
-use Rattle.kem_mail.specs.declared.error.MailError.{MailError}
-use Rattle.kem_mail.specs.declared.error.MailError.TheVariants.{ReadFault}
-use Rattle.kem_mail.specs.declared.error.RunError.TheVariants.{Mail}
-use Rattle.kem_mail.proofs.Runs.{refused_takes_open, refused_takes_key, refused_comes, open_takes, open_faults, key_takes}
+use Rattle.kem_mail.specs.declared.error.MailError.TheVariants.{NoMemory}
+use Rattle.kem_mail.proofs.Runs.{came_refused, came_open, came_key}
 use Rattle.kem_mail.proofs.run.items_of.Goals as goal
 
-pub returns-in_err-head-in-Open-clause-comes_to : goal.returns-in_err-head-in-Open-clause-comes_to
-returns-in_err-head-in-Open-clause-comes_to g c =
-    let left = g.S.Source.left in
+pub returns-in_err-head-in-Open-clause-came : goal.returns-in_err-head-in-Open-clause-came
+returns-in_err-head-in-Open-clause-came g c =
+    let source = g.S.Source in
+    let said = c.in_err-head-in-Open.ensures in
     let p = err_from_is_err_and c.from_residual.result c.from_residual.ensures.1 in
-    rw (p.1, p.2) (subst (λ (command : Command). IfSome (left c.args.src.now) (λ text. RunComes g.H.KemHash.family command text (Err c.in_err-head-in-Open.field-0.0))) (sym c.in-Open.is)
-    (refused_comes g.H.KemHash.family (Open c.in-Open.suite c.in-Open.budget) Head (λ t head. IsHead t head.seed head.info.items) (left c.args.src.now) (left c.next_head.new.src) c.in_err-head-in-Open.field-0.0
-    c.in_err-head-in-Open.ensures.taken (λ e. c.in_err-head-in-Open.ensures.ended (ap Err e))))
+    rw (p.1, p.2, c.in-Open.is) (came_refused g.H.KemHash.family (Open c.in-Open.suite c.in-Open.budget) c.in_err-head-in-Open.field-0.0 (source.left c.args.src.now) (source.left c.next_head.new.src) (source.faults c.args.src.now) (source.faults c.next_head.new.src)
+    said.taken (λ e. said.ended (ap Err e)) (λ e. said.read_fault (ap Err e)) (λ not. said.no_fault (λ e. not (cc e))))
 
-pub returns-in_err-head-in-Open-clause-taken : goal.returns-in_err-head-in-Open-clause-taken
-returns-in_err-head-in-Open-clause-taken g c =
-    let left = g.S.Source.left in
-    rw c.in-Open.is (refused_takes_open c.in-Open.suite c.in-Open.budget Head (λ t head. IsHead t head.seed head.info.items) (left c.args.src.now) (left c.next_head.new.src) c.in_err-head-in-Open.field-0.0 c.in_err-head-in-Open.ensures.taken)
-
-pub returns-in_err-messages-in-Open-clause-read_part : goal.returns-in_err-messages-in-Open-clause-read_part
-returns-in_err-messages-in-Open-clause-read_part g c = λ is.
-    let left = g.S.Source.left in
+pub returns-in_err-messages-in-Open-clause-came : goal.returns-in_err-messages-in-Open-clause-came
+returns-in_err-messages-in-Open-clause-came g c =
+    let source = g.S.Source in
+    let head = c.in_ok-head-in-Open in
     let p = err_from_is_err_and c.from_residual-in_err-messages-in-Open.result c.from_residual-in_err-messages-in-Open.ensures.1 in
-    let error = c.in_err-messages-in-Open.field-0.0 in
-    let mail : Err (Mail error) ≡ Err (Mail ReadFault) = ap Err (sym p.2) ∙ (sym p.1 ∙ is) in
-    let same : error ≡ ReadFault = cc in
-    let opened = c.in_err-messages-in-Open.ensures.opened in
-    rw c.in-Open.is (open_faults g.H.KemHash.family c.in-Open.suite c.in-Open.budget (left c.args.src.now) (left c.next_head.new.src) (left c.open_suite.new.src) c.in_ok-head-in-Open.head.seed c.in_ok-head-in-Open.head.info.items
-    c.in_ok-head-in-Open.ensures.taken
-    (subst (λ (e : MailError). Lost (left c.next_head.new.src) (left c.open_suite.new.src) (IsTaken c.in-Open.budget (Err e))) same opened.taken)
-    (opened.read_fault (ap Err same)).1)
+    rw (p.1, p.2, c.in-Open.is) (came_open g.H.KemHash.family c.in-Open.suite c.in-Open.budget (source.left c.args.src.now) (source.left c.next_head.new.src) (source.left c.open_suite.new.src)
+    (source.faults c.args.src.now) (source.faults c.next_head.new.src) (source.faults c.open_suite.new.src) head.head.seed head.head.info.items (Err c.in_err-messages-in-Open.field-0.0)
+    head.ensures.taken (head.ensures.no_fault (λ e. cc e)) c.in_err-messages-in-Open.ensures.opened)
 
-pub returns-in_err-messages-in-Open-clause-taken : goal.returns-in_err-messages-in-Open-clause-taken
-returns-in_err-messages-in-Open-clause-taken g c =
-    let left = g.S.Source.left in
-    rw c.in-Open.is (open_takes c.in-Open.suite c.in-Open.budget (left c.args.src.now) (left c.next_head.new.src) (left c.open_suite.new.src) c.in_ok-head-in-Open.head.seed c.in_ok-head-in-Open.head.info.items
-    _ c.in_ok-head-in-Open.ensures.taken c.in_err-messages-in-Open.ensures.opened.taken)
+pub returns-in_ok-messages-in-Open-clause-came : goal.returns-in_ok-messages-in-Open-clause-came
+returns-in_ok-messages-in-Open-clause-came g c =
+    let source = g.S.Source in
+    let head = c.in_ok-head-in-Open in
+    let messages = c.in_ok-messages-in-Open in
+    rw (c.into_items.ensures, c.in-Open.is) (came_open g.H.KemHash.family c.in-Open.suite c.in-Open.budget (source.left c.args.src.now) (source.left c.next_head.new.src) (source.left c.open_suite.new.src)
+    (source.faults c.args.src.now) (source.faults c.next_head.new.src) (source.faults c.open_suite.new.src) head.head.seed head.head.info.items (Ok messages.messages)
+    head.ensures.taken (head.ensures.no_fault (λ e. cc e)) messages.ensures.opened)
 
-pub returns-in_ok-messages-in-Open-clause-taken : goal.returns-in_ok-messages-in-Open-clause-taken
-returns-in_ok-messages-in-Open-clause-taken g c =
-    let left = g.S.Source.left in
-    rw c.in-Open.is (open_takes c.in-Open.suite c.in-Open.budget (left c.args.src.now) (left c.next_head.new.src) (left c.open_suite.new.src) c.in_ok-head-in-Open.head.seed c.in_ok-head-in-Open.head.info.items
-    _ c.in_ok-head-in-Open.ensures.taken c.in_ok-messages-in-Open.ensures.opened.taken)
-
-pub returns-in_err-seed-in-Key-clause-comes_to : goal.returns-in_err-seed-in-Key-clause-comes_to
-returns-in_err-seed-in-Key-clause-comes_to g c =
-    let left = g.S.Source.left in
+pub returns-in_err-seed-in-Key-clause-came : goal.returns-in_err-seed-in-Key-clause-came
+returns-in_err-seed-in-Key-clause-came g c =
+    let source = g.S.Source in
+    let said = c.in_err-seed-in-Key.ensures in
     let p = err_from_is_err_and c.from_residual-in_err-seed-in-Key.result c.from_residual-in_err-seed-in-Key.ensures.1 in
-    rw (p.1, p.2) (subst (λ (command : Command). IfSome (left c.args.src.now) (λ text. RunComes g.H.KemHash.family command text (Err c.in_err-seed-in-Key.field-0.0))) (sym c.in-Key.is)
-    (refused_comes g.H.KemHash.family (Key c.in-Key.set) (List ℕ) (λ t seed. IsSeedLine t seed) (left c.args.src.now) (left c.next_seed.new.src) c.in_err-seed-in-Key.field-0.0
-    c.in_err-seed-in-Key.ensures.taken (λ e. c.in_err-seed-in-Key.ensures.ended (ap Err e))))
+    rw (p.1, p.2, c.in-Key.is) (came_refused g.H.KemHash.family (Key c.in-Key.set) c.in_err-seed-in-Key.field-0.0 (source.left c.args.src.now) (source.left c.next_seed.new.src) (source.faults c.args.src.now) (source.faults c.next_seed.new.src)
+    said.taken (λ e. said.ended (ap Err e)) (λ e. said.read_fault (ap Err e)) (λ not. said.no_fault (λ e. not (cc e))))
 
-pub returns-in_err-seed-in-Key-clause-taken : goal.returns-in_err-seed-in-Key-clause-taken
-returns-in_err-seed-in-Key-clause-taken g c =
-    let left = g.S.Source.left in
-    rw c.in-Key.is (refused_takes_key c.in-Key.set (List ℕ) (λ t seed. IsSeedLine t seed) (left c.args.src.now) (left c.next_seed.new.src) c.in_err-seed-in-Key.field-0.0 c.in_err-seed-in-Key.ensures.taken)
+pub returns-in_err-key-in-Key-clause-came : goal.returns-in_err-key-in-Key-clause-came
+returns-in_err-key-in-Key-clause-came g c =
+    let source = g.S.Source in
+    let seed = c.in_ok-seed-in-Key in
+    let p = err_from_is_err_and c.from_residual-in_err-key-in-Key.result c.from_residual-in_err-key-in-Key.ensures.1 in
+    rw (p.1, p.2, c.in-Key.is) (came_key g.H.KemHash.family c.in-Key.set (source.left c.args.src.now) (source.left c.next_seed.new.src) (source.faults c.args.src.now) (source.faults c.next_seed.new.src) seed.seed (Err c.in_err-key-in-Key.field-0.0)
+    seed.ensures.taken (seed.ensures.no_fault (λ e. cc e)) (elim c.in_err-key-in-Key.ensures [ inl memory ↦ inr (ap Err memory) | inr same ↦ inl (sym same) ]))
 
-pub returns-in_err-key-in-Key-clause-taken : goal.returns-in_err-key-in-Key-clause-taken
-returns-in_err-key-in-Key-clause-taken g c =
-    let left = g.S.Source.left in
-    rw c.in-Key.is (key_takes c.in-Key.set (left c.args.src.now) (left c.next_seed.new.src) c.in_ok-seed-in-Key.seed c.in_ok-seed-in-Key.ensures.taken)
+pub returns-in_err-push-in-Key-clause-came : goal.returns-in_err-push-in-Key-clause-came
+returns-in_err-push-in-Key-clause-came g c =
+    let source = g.S.Source in
+    let seed = c.in_ok-seed-in-Key in
+    let p = err_from_is_err_and c.from_residual-in_err-push-in-Key.result c.from_residual-in_err-push-in-Key.ensures.1 in
+    rw (p.1, p.2, c.in-Key.is) (came_key g.H.KemHash.family c.in-Key.set (source.left c.args.src.now) (source.left c.next_seed.new.src) (source.faults c.args.src.now) (source.faults c.next_seed.new.src) seed.seed (Err NoMemory)
+    seed.ensures.taken (seed.ensures.no_fault (λ e. cc e)) (inr refl))
 
-pub returns-in_err-push-in-Key-clause-taken : goal.returns-in_err-push-in-Key-clause-taken
-returns-in_err-push-in-Key-clause-taken g c =
-    let left = g.S.Source.left in
-    rw c.in-Key.is (key_takes c.in-Key.set (left c.args.src.now) (left c.next_seed.new.src) c.in_ok-seed-in-Key.seed c.in_ok-seed-in-Key.ensures.taken)
-
-pub returns-in_ok-push-in-Key-clause-taken : goal.returns-in_ok-push-in-Key-clause-taken
-returns-in_ok-push-in-Key-clause-taken g c =
-    let left = g.S.Source.left in
-    rw c.in-Key.is (key_takes c.in-Key.set (left c.args.src.now) (left c.next_seed.new.src) c.in_ok-seed-in-Key.seed c.in_ok-seed-in-Key.ensures.taken)
+pub returns-in_ok-push-in-Key-clause-came : goal.returns-in_ok-push-in-Key-clause-came
+returns-in_ok-push-in-Key-clause-came g c =
+    let source = g.S.Source in
+    let seed = c.in_ok-seed-in-Key in
+    rw (c.in_ok-push-in-Key.ensures.pushed, c.new-items.ensures, c.in-Key.is) (came_key g.H.KemHash.family c.in-Key.set (source.left c.args.src.now) (source.left c.next_seed.new.src) (source.faults c.args.src.now) (source.faults c.next_seed.new.src) seed.seed (Ok (c.in_ok-key-in-Key.key.items ∷ []))
+    seed.ensures.taken (seed.ensures.no_fault (λ e. cc e)) (inl (sym c.in_ok-key-in-Key.ensures)))

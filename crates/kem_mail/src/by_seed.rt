@@ -1,4 +1,4 @@
-//! Opening a mail with a lattice key.
+//! Opening a mail with the lattice key of a seed.
 
 ghost use Rattle.std.specs.Prelude.{◌≡◌, ◌≢◌, ◌≤◌, ◌⊎◌, [], None, Err, IfSome, IsErrOf, Some};
 ghost use Rattle.age_core.specs.Outside.{Rose};
@@ -18,7 +18,8 @@ use std::alloc::Global;
 /// Opens the mail that the first `budget` bytes of a source hold, with the lattice key of a seed, as
 /// [`open_with`] does.
 ///
-/// `XofExhausted` comes exactly where the seed gives no key, before anything is read.
+/// `XofExhausted` comes exactly where the seed gives no key, before anything is read, or `NoMemory` in its
+/// place.
 pub fn open_mail<P: ParameterSet, H: KemHash, D: Kdf, A: Aead, S: Source>(
     alloc: Global,
     seed: &Seed,
@@ -44,6 +45,7 @@ pub fn open_mail<P: ParameterSet, H: KemHash, D: Kdf, A: Aead, S: Source>(
     // What was taken, and what of it held at each refusal.
     ensures taken { Lost (S.left src.old) (S.left src.new) (IsTaken budget result) }
     ensures ended { IsErrOf result MailError.UnexpectedEof → IfSome (S.left src.old) (λ text. S.left src.new ≡ Some []) }
+    ensures no_fault { (IsErrOf result MailError.ReadFault → ⊥) → S.faults src.new ≡ S.faults src.old }
     ensures faults { S.faults src.old ≤ S.faults src.new }
 {
     let key = DecapsulationKey::<P, H>::from_seed(alloc, seed)?;

@@ -3,7 +3,7 @@ use Rattle.std.proofs.lemmas.Result.{err_from_is_err_and}
 use Rattle.age_core.specs.Outside.{Rose}
 use Rattle.ml_kem.specs.Parameters.{Parameters}
 use Rattle.kem_mail.proofs.Keyed.{lost_nothing, told_by_key, complete_by_key}
-use Rattle.kem_mail.proofs.mail.open_mail.Goals as goal
+use Rattle.kem_mail.proofs.by_seed.open_mail.Goals as goal
 
 pub returns-in_err-key-clause-taken : goal.returns-in_err-key-clause-taken
 returns-in_err-key-clause-taken g c =
@@ -13,11 +13,11 @@ returns-in_err-key-clause-taken g c =
 pub returns-clause-verdict : goal.returns-clause-verdict
 returns-clause-verdict g c =
     told_by_key g.P.ParameterSet.set g.H.KemHash.family g.D.Kdf.kdf g.A.Aead.aead g.A.AeadImpl.BaseAead.open_of c.args.seed.now c.new-sk.result c.args.info.now g.P.ParameterSet.CT_SIZE c.args.budget c.in_ok-key.key
-    c.in_ok-key.ensures c.new-sk.ensures (ap (λ (set : Parameters). set.ct_size) g.P.ParameterSet.constants) (g.S.Source.left c.args.src.now) c.open_with.result c.open_with.ensures.verdict
+    c.in_ok-key.ensures.value c.new-sk.ensures (ap (λ (set : Parameters). set.ct_size) g.P.ParameterSet.constants) (g.S.Source.left c.args.src.now) c.open_with.result c.open_with.ensures.verdict
 
 pub returns-clause-complete : goal.returns-clause-complete
 returns-clause-complete g c =
     let faults = g.S.Source.faults in
     complete_by_key g.P.ParameterSet.set g.H.KemHash.family g.D.Kdf.kdf g.A.Aead.aead g.A.AeadImpl.BaseAead.open_of c.args.seed.now c.new-sk.result c.args.info.now g.P.ParameterSet.CT_SIZE c.args.budget c.in_ok-key.key
-    c.in_ok-key.ensures c.new-sk.ensures (ap (λ (set : Parameters). set.ct_size) g.P.ParameterSet.constants) (g.S.Source.left c.args.src.now) c.open_with.result
+    c.in_ok-key.ensures.value c.new-sk.ensures (ap (λ (set : Parameters). set.ct_size) g.P.ParameterSet.constants) (g.S.Source.left c.args.src.now) c.open_with.result
     (Rose (faults c.args.src.now) (faults c.open_with.new.src)) c.open_with.ensures.complete
