@@ -430,3 +430,73 @@ pub const FAULTY_RUNS: &[FaultyRun] = &[
         output: "",
     },
 ];
+
+/// A run whose reads of these numbers fail, and how many reads it makes.
+pub struct CountedRun {
+    pub name: &'static str,
+    pub command: &'static str,
+    pub input: &'static [Part],
+    pub fail_at: &'static [u64],
+    pub status: u8,
+    pub reads: u64,
+}
+
+/// A byte of a head a read, and one more at its end; and of a mail as much as the budget allows at once.
+pub const COUNTED_RUNS: &[CountedRun] = &[
+    CountedRun {
+        name: "no head",
+        command: "open 768 sha256 aes256 65536",
+        input: &[],
+        fail_at: &[],
+        status: 3,
+        reads: 1,
+    },
+    CountedRun {
+        name: "seed ended",
+        command: "key 768",
+        input: &[ZERO_SEED],
+        fail_at: &[],
+        status: 3,
+        reads: 129,
+    },
+    CountedRun {
+        name: "info ended",
+        command: "open 768 sha256 aes256 65536",
+        input: &[ZERO_SEED, (1, "\nab")],
+        fail_at: &[],
+        status: 3,
+        reads: 132,
+    },
+    CountedRun {
+        name: "seed unread",
+        command: "key 768",
+        input: &[ZERO_SEED],
+        fail_at: &[5],
+        status: 4,
+        reads: 6,
+    },
+    CountedRun {
+        name: "mail unread",
+        command: "open 768 sha256 aes256 65536",
+        input: ZERO_INPUT,
+        fail_at: &[130],
+        status: 4,
+        reads: 131,
+    },
+    CountedRun {
+        name: "mail ended",
+        command: "open 768 sha256 aes256 65536",
+        input: &[ZERO_SEED, NO_INFO, (1, "-> done\n")],
+        fail_at: &[],
+        status: 3,
+        reads: 132,
+    },
+    CountedRun {
+        name: "budget of 8",
+        command: "open 768 sha256 aes256 8",
+        input: DONE_INPUT,
+        fail_at: &[],
+        status: 3,
+        reads: 131,
+    },
+];

@@ -2,8 +2,8 @@
 
 use crate::mails::OPENED;
 use crate::runs::{
-    DONE_INPUT, FAULTY_RUNS, KEYS, MESSAGES_INPUT, NO_COMMANDS, Part, ZERO_INPUT, ZERO_MAIL,
-    ZERO_SEED, heads, opened_mails, refusals,
+    COUNTED_RUNS, DONE_INPUT, FAULTY_RUNS, KEYS, MESSAGES_INPUT, NO_COMMANDS, Part, Run,
+    ZERO_INPUT, ZERO_MAIL, ZERO_SEED, heads, opened_mails, refusals,
 };
 use age_core::outside::{CleanSource, MemSink, MemSource, Source};
 use hash_families::{AboutModulus, Ones, RepeatingHash, SmallAndFifty, Zeros};
@@ -14,6 +14,7 @@ use kem_mail::{MailError, MessageList, mail_main, open_mail, open_with};
 use ml_kem::MlKem768;
 use sha2::{Digest, Sha256};
 use std::alloc::{AllocError, Global};
+use std::process::Abort;
 use std::test::Fail;
 
 /// More bytes than any input has.
@@ -75,24 +76,50 @@ fn run<S: Source>(
     run_by::<Sha2Hash, S>(alloc, command, src, fail_at)
 }
 
-/// How the bytes are cut changes no answer.
-#[test]
-fn runs_have_their_answers(rt: HostRuntime) -> Result<(), Fail> {
-    for table in [refusals(), opened_mails(), heads()] {
-        for row in table {
-            for piece in [1, 7, 64, 4096] {
-                let bytes = input(rt.alloc(), row.input)?;
-                let mut src = MemSource::new(bytes, piece, Vec::new(rt.alloc()));
-                let answer = run(rt.alloc(), row.command, &mut src, &[])?;
-                assert_eq!(rt; answer.status, row.status, "{}", row.name);
-                assert_eq!(rt;
-                    answer.output.as_slice(),
-                    row.output.as_bytes(),
-                    "{}",
-                    row.name
-                );
-            }
+/// Each run of a table has its answer, however its bytes are cut.
+fn compare(rt: &(impl Abort + AllocGlobal), table: &[Run]) -> Result<(), Fail> {
+    for row in table {
+        for piece in [1, 7, 64, 4096] {
+            let bytes = input(rt.alloc(), row.input)?;
+            let mut src = MemSource::new(bytes, piece, Vec::new(rt.alloc()));
+            let answer = run(rt.alloc(), row.command, &mut src, &[])?;
+            assert_eq!(rt; answer.status, row.status, "{}", row.name);
+            assert_eq!(rt;
+                answer.output.as_slice(),
+                row.output.as_bytes(),
+                "{}",
+                row.name
+            );
         }
+    }
+    Ok(())
+}
+
+#[test]
+fn refusals_have_their_answers(rt: HostRuntime) -> Result<(), Fail> {
+    compare(&rt, refusals())
+}
+
+#[test]
+fn opened_mails_have_their_answers(rt: HostRuntime) -> Result<(), Fail> {
+    compare(&rt, opened_mails())
+}
+
+#[test]
+fn heads_have_their_answers(rt: HostRuntime) -> Result<(), Fail> {
+    compare(&rt, heads())
+}
+
+/// A head is read byte by byte, and not asked for again behind its end or a fault; and of a mail no more
+/// than the budget is asked for.
+#[test]
+fn reads_are_counted(rt: HostRuntime) -> Result<(), Fail> {
+    for counted in COUNTED_RUNS {
+        let fail_at = Vec::from_slice(rt.alloc(), counted.fail_at)?;
+        let mut src = MemSource::new(input(rt.alloc(), counted.input)?, WHOLE, fail_at);
+        let answer = run(rt.alloc(), counted.command, &mut src, &[])?;
+        assert_eq!(rt; answer.status, counted.status, "{}", counted.name);
+        assert_eq!(rt; src.reads(), counted.reads, "{}", counted.name);
     }
     Ok(())
 }
@@ -299,16 +326,23 @@ fn mails_under_the_test_kem_have_their_answers(rt: HostRuntime) -> Result<(), Fa
 
 /// A run whose contract is the headline is a run.
 #[test]
-fn runs_that_are_laws_are_runs(rt: HostRuntime) -> Result<(), Fail> {
+fn the_headline_is_a_run(rt: HostRuntime) -> Result<(), Fail> {
     let words = words_of(rt.alloc(), OPEN)?;
     let mut src = MemSource::new(input(rt.alloc(), MESSAGES_INPUT)?, 7, Vec::new(rt.alloc()));
     let mut out = MemSink::new(rt.alloc(), Vec::new(rt.alloc()));
     let status = headline::<Sha2Hash, MemSource, MemSink>(rt.alloc(), &words, &mut src, &mut out);
     assert_eq!(rt; status, 0);
     assert_eq!(rt; out.bytes(), OPENED.as_bytes());
+    Ok(())
+}
 
+/// So is that over memory, whose sink has no write that is to fail.
+#[test]
+fn the_headline_over_memory_is_a_run(rt: HostRuntime) -> Result<(), Fail> {
+    let words = words_of(rt.alloc(), OPEN)?;
     let mut src = CleanSource::new(input(rt.alloc(), MESSAGES_INPUT)?);
     let mut out = MemSink::new(rt.alloc(), Vec::new(rt.alloc()));
+    assert!(rt; out.fail_at().is_empty());
     let status = headline_over_memory::<Sha2Hash>(rt.alloc(), &words, &mut src, &mut out);
     assert_eq!(rt; status, 0);
     assert_eq!(rt; out.bytes(), OPENED.as_bytes());
