@@ -165,8 +165,8 @@ not_nil_right a b h e = h (nil_right a b e)
 
 module _ (Is : List ℕ → Type 0) where
   -- no input begins another
-  abbrev pub IsEnded : Type 0
-  IsEnded = (a b more rest : List ℕ) → Is a → Is b → a ++ more ≡ b ++ rest → (a ≡ b) × (more ≡ rest)
+  abbrev pub NoneBeginsAnother : Type 0
+  NoneBeginsAnother = (a b more rest : List ℕ) → Is a → Is b → a ++ more ≡ b ++ rest → (a ≡ b) × (more ≡ rest)
 
   -- the front of a part is a part
   pub IsPart-front : (a b : List ℕ) → IsPart Is (a ++ b) → IsPart Is a
@@ -496,7 +496,7 @@ module _ (Is : List ℕ → Type 0) where
         ]
       ]
 
-  module _ (ended : IsEnded Is) where
+  module _ (ended : NoneBeginsAnother Is) where
     -- a text behind a whole input is no part
     pub whole_no_part : (text input rest : List ℕ) → text ≡ input ++ rest → Is input → IsPart Is text → ⊥
     whole_no_part text input rest e h p =
@@ -603,7 +603,7 @@ some_head text =
 -- ---- the inputs of a command
 
 -- no input of a command begins another
-pub one_input_end : (command : Command) → IsEnded (IsInput command)
+pub one_input_end : (command : Command) → NoneBeginsAnother (IsInput command)
 one_input_end (Open suite budget) = one_head_end
 one_input_end (Key set) = one_line_end 128 128
 
