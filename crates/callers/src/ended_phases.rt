@@ -1,7 +1,7 @@
 //! A caller of `age_core`.
 
-ghost use Rattle.std.specs.Prelude.{[], ◌∷◌, codes, IfOk, OnOk, OnErr};
-ghost use Rattle.age_core.specs.Outside.{Gains, GainsPart};
+ghost use Rattle.std.specs.Prelude.{[], ◌∷◌, codes, IfOk};
+ghost use Rattle.age_core.specs.Outside.{Writes};
 ghost use Rattle.age_core.specs.Stanza.{Stanza as Spelled, stanza_of, spelling};
 ghost use Rattle.age_core.specs.Receiving.{Held, Receives, fresh};
 
@@ -13,10 +13,8 @@ use std::alloc::Global;
 
 /// Ends a phase: exactly the spelling of `done` is written, or at a fault a part of it.
 pub fn end_phase<W: Sink>(sink: &mut W) -> Result<(), Failed>
-    ensures written { let done : Spelled = record { tag = codes "done"; args = []; body = [] } in
-        OnOk result (Gains (W.got sink.old) (W.got sink.new) (spelling done)) }
-    ensures part { let done : Spelled = record { tag = codes "done"; args = []; body = [] } in
-        OnErr result (GainsPart (W.got sink.old) (W.got sink.new) (spelling done)) }
+    ensures { let done : Spelled = record { tag = codes "done"; args = []; body = [] } in
+        Writes W.got W.faults W.plan sink.old sink.new result (spelling done) }
 {
     laws::worked_spellings();
     write_all(sink, b"-> done\n\n")

@@ -1,10 +1,9 @@
 //! A caller of `kem_mail`.
 
 ghost use Rattle.std.specs.Prelude.{◌<◌, ℕ, [], IfSome, IsErrOf, length};
-ghost use Rattle.gcm_core.specs.Gcm.{open_of};
 ghost use Rattle.kem_hash.specs.Sha2.{sha2_family};
 ghost use Rattle.ml_kem.specs.Parameters.{ml_kem_768};
-ghost use Rattle.kem_mail.specs.Command.{kdf_algorithm, aead_algorithm};
+ghost use Rattle.kem_mail.specs.Command.{kdf_algorithm, aead_algorithm, aead_open};
 ghost use Rattle.kem_mail.specs.Mail.{OpensByKey, IsVerdict};
 ghost use Rattle.kem_mail.specs.Taken.{Lost, BeginsList};
 ghost use Rattle.kem_mail.specs.declared.command.KdfName.TheVariants.{Sha256};
@@ -28,7 +27,7 @@ pub fn open_mailbox<S: Source>(
     src: &mut S,
 ) -> Result<MessageList, MailError>
     ensures verdict { IfSome (S.left src.old) (λ text. IsVerdict result → OpensByKey ml_kem_768 sha2_family
-        (kdf_algorithm Sha256) (aead_algorithm Aes256) open_of seed.now [] text BUDGET result) }
+        (kdf_algorithm Sha256) (aead_algorithm Aes256) (aead_open Aes256) seed.now [] text BUDGET result) }
     ensures fault { IsErrOf result MailError.ReadFault
         → Lost (S.left src.old) (S.left src.new) (λ bytes. BeginsList bytes × (length bytes < BUDGET)) }
 {

@@ -11,11 +11,11 @@ ghost use Rattle.hpke.specs.SingleShot.{opened_once};
 use crate::sealed_contexts::open_letter;
 use hpke::{Aead, BaseAead, HpkeError, Kdf, LatticeKem, LatticePrivateKey};
 use kem_hash::KemHash;
-use ml_kem::{DecapsulationKey, ParameterSet, Seed};
+use ml_kem::{DecapsulationKey, KemError, ParameterSet, Seed};
 use std::alloc::Global;
 
 /// Opens a letter by a stored seed: the bytes of a ciphertext, and one text that was sealed in mode
-/// Base, with `letter` as the info and without associated data.
+/// Base, with `letter` as the info and without associated data. A seed that gives no key is no valid one.
 pub fn open_letter_by_seed<A: Aead, D: Kdf, P: ParameterSet, H: KemHash>(
     alloc: Global,
     seed: &Seed,
@@ -26,9 +26,12 @@ pub fn open_letter_by_seed<A: Aead, D: Kdf, P: ParameterSet, H: KemHash>(
         let setup = receiver_setup (suite_of (lattice_kem_id P.set) D.kdf A.aead) mode_base (codes "letter") secret in
         IfOk result (λ text. option_and_then (opened_once A.AeadImpl.open_of [] sealed.now) setup ≡ Some text.items) }
 {
-    let Ok(key) = DecapsulationKey::<P, H>::from_seed(alloc, seed) else {
-        return Err(HpkeError::ValidationError);
-    };
-    let sk = LatticePrivateKey::new(key);
-    open_letter::<A, D, LatticeKem<P, H>>(alloc, &sk, encapped, sealed)
+    match DecapsulationKey::<P, H>::from_seed(alloc, seed) {
+        Ok(key) => {
+            let sk = LatticePrivateKey::new(key);
+            open_letter::<A, D, LatticeKem<P, H>>(alloc, &sk, encapped, sealed)
+        }
+        Err(KemError::XofExhausted) => Err(HpkeError::ValidationError),
+        Err(KemError::NoMemory) => Err(HpkeError::NoMemory),
+    }
 }
