@@ -1,0 +1,2 @@
+-- what is read of an output first
+pub mod First

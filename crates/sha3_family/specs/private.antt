@@ -1,0 +1,2 @@
+-- the family is lawful
+pub mod Sha3Laws
