@@ -3,6 +3,7 @@
 #![tactic(auto)]
 
 pub mod choices;
+pub mod derived_keys;
 pub mod ended_phases;
 pub mod key_derivation;
 pub mod multiplied_polynomials;
@@ -12,6 +13,7 @@ pub mod repeated_samples;
 pub mod sealed_contexts;
 pub mod sealed_records;
 pub mod sent_secrets;
+pub mod standard_keys;
 pub mod stored_seeds;
 pub mod tagged_values;
 pub mod written_polynomials;
