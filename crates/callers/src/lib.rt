@@ -6,6 +6,7 @@ pub mod choices;
 pub mod derived_keys;
 pub mod ended_phases;
 pub mod key_derivation;
+pub mod multiplied_dsa_polynomials;
 pub mod multiplied_polynomials;
 pub mod opened_mails;
 pub mod rejected_secrets;
