@@ -1,0 +1,4 @@
+mod Answered
+mod Differences
+mod OneAnswer
+mod Texts

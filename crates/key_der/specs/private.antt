@@ -1,0 +1,2 @@
+-- refusals of the calls below
+pub mod Refusals
