@@ -11,6 +11,7 @@ pub mod multiplied_polynomials;
 pub mod opened_mails;
 pub mod rejected_secrets;
 pub mod repeated_samples;
+pub mod rewritten_keys;
 pub mod sealed_contexts;
 pub mod sealed_records;
 pub mod sent_secrets;
