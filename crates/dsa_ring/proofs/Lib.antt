@@ -28,5 +28,7 @@ pub mod ZetaTable
 pub mod LayerLoop
 -- the loops over the groups of a layer and over the butterflies of a group
 pub mod GroupLoop
+-- a list that is multiplied
+pub mod Multiples
 -- eight layers back
 pub mod EightBack

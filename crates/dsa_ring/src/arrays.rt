@@ -6,6 +6,7 @@ ghost use Rattle.dsa_ring.specs.Layers.{butterflies, inverse_butterflies, invers
 ghost use Rattle.dsa_ring.specs.Transform.{inverse_transform, transform};
 
 use crate::layers::BUTTERFLIES;
+use crate::products::product;
 use crate::zetas::zeta;
 use module_lattice::{Elem, Field8380417, NttPolynomial, Polynomial};
 
@@ -45,7 +46,7 @@ pub fn dsa_ntt_inverse(f: &NttPolynomial<Field8380417>) -> Polynomial<Field83804
     undo_layer(&mut values, 32);
     undo_layer(&mut values, 64);
     undo_layer(&mut values, 128);
-    Elem::new(INVERSE_OF_256) * &Polynomial::new(values)
+    Polynomial::new(scaled(&values))
 }
 
 // The numbers of a polynomial in the transform domain.
@@ -58,6 +59,19 @@ fn numbers(f: &NttPolynomial<Field8380417>) -> [u32; DEGREE]
         values[i] = f.coefficient(i).get();
     }
     values
+}
+
+// The numbers times 1/256.
+fn scaled(values: &[u32; DEGREE]) -> [u32; DEGREE]
+    requires { IsPolynomial 8380417 values.now }
+    ensures value { result ≡ multiple 8380417 8347681 values.now }
+    ensures polynomial { IsPolynomial 8380417 result }
+{
+    let mut out = [0; DEGREE];
+    for i in 0..DEGREE {
+        out[i] = product(Elem::new(INVERSE_OF_256), Elem::new(values[i])).get();
+    }
+    out
 }
 
 // One layer, whose butterflies join places `half` apart.
@@ -132,7 +146,7 @@ fn butterfly(values: &mut [u32; DEGREE], i: usize, j: usize, zeta: Elem<Field838
     ensures polynomial { IsPolynomial 8380417 values.new }
 {
     let a = Elem::<Field8380417>::new(values[i]);
-    let turned = zeta * Elem::new(values[j]);
+    let turned = product(zeta, Elem::new(values[j]));
     values[i] = (a + turned).get();
     values[j] = (a - turned).get();
 }
@@ -148,5 +162,5 @@ fn inverse_butterfly(values: &mut [u32; DEGREE], i: usize, j: usize, zeta: Elem<
     let a = Elem::<Field8380417>::new(values[i]);
     let b = Elem::new(values[j]);
     values[i] = (a + b).get();
-    values[j] = (zeta * (b - a)).get();
+    values[j] = product(zeta, b - a).get();
 }

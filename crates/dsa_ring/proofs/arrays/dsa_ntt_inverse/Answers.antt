@@ -1,4 +1,4 @@
-use Rattle.std.proofs.Common.{◌∙◌, ap, ap₂, subst}
+use Rattle.std.proofs.Common.{◌∙◌, ap, subst}
 use Rattle.module_lattice.specs.Ring.{IsPolynomial, multiple}
 use Rattle.dsa_ring.specs.Layers.{inverse_layer}
 use Rattle.dsa_ring.proofs.EightBack.{inverse-layers}
@@ -6,9 +6,9 @@ use Rattle.dsa_ring.proofs.arrays.dsa_ntt_inverse.Goals as goal
 
 pub returns : goal.returns
 returns c =
-    c.mul.ensures
-    ∙ ap₂ (multiple 8380417) c.new.ensures (c.new-2.ensures
-    ∙ c.undo_layer-8.ensures.value
+    c.new.ensures
+    ∙ c.scaled.ensures.value
+    ∙ ap (multiple 8380417 8347681) (c.undo_layer-8.ensures.value
     ∙ ap (inverse_layer 128) (c.undo_layer-7.ensures.value
     ∙ ap (inverse_layer 64) (c.undo_layer-6.ensures.value
     ∙ ap (inverse_layer 32) (c.undo_layer-5.ensures.value
