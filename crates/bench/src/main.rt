@@ -1,9 +1,11 @@
-//! How fast AES-GCM and the lattice KEM are on this machine, beside SHA-256: a tool for the hand.
+//! How fast AES-GCM and the lattice KEM are on this machine, beside SHA-256, and the transforms of
+//! polynomials: a tool for the hand.
 #![tactic(auto)]
 
 mod ciphers;
 mod lattice;
 mod stopwatch;
+mod transforms;
 
 use anyhow::Result;
 use std::alloc::Global;
@@ -11,7 +13,8 @@ use std::env::{self, Env};
 
 /// What is printed where no word asks for a measurement.
 const USAGE: &str = "bench gcm    AES-GCM and SHA-256, in MB/s
-bench kem    the lattice KEM and SHA-256 over 8 KiB, in microseconds";
+bench kem    the lattice KEM and SHA-256 over 8 KiB, in microseconds
+bench ntt    the transforms modulo 3329 and 8380417, in nanoseconds";
 
 /// The first word after the program's name.
 fn word(rt: &(impl Env + AllocGlobal)) -> Result<Option<String>> {
@@ -22,6 +25,7 @@ fn main(rt: HostRuntime) -> Result<()> {
     match word(&rt)?.as_ref().map(|word| word.as_str()) {
         Some("gcm") => ciphers::print_all(&rt),
         Some("kem") => lattice::print_all(&rt),
+        Some("ntt") => transforms::print_all(&rt),
         _ => {
             println!(rt; "{USAGE}")?;
             Ok(())

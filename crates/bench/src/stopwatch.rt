@@ -36,6 +36,11 @@ impl Time {
         Tenths(self.nanos / self.runs.max(1) / 100)
     }
 
+    /// Nanoseconds for one run, rounded down.
+    pub fn nanos(&self) -> u64 {
+        self.nanos / self.runs.max(1)
+    }
+
     /// Megabytes a second, where each run takes this many bytes.
     pub fn megabytes(&self, bytes: usize) -> Tenths {
         let all = self.runs.saturating_mul(bytes as u64);
