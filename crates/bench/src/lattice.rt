@@ -1,12 +1,13 @@
-//! The lattice KEM over the family of SHA-2, for its three sets.
+//! The lattice KEM over the family of SHA-2, for its three sets, and over the family of SHA-3 at 768.
 
 use crate::ciphers::Hashing;
 use crate::stopwatch::{Work, fastest};
 use anyhow::{Result, ensure};
-use kem_hash::Sha2Hash;
+use kem_hash::{KemHash, Sha2Hash};
 use ml_kem::{
     Ciphertext, DecapsulationKey, MlKem512, MlKem768, MlKem1024, ParameterSet, SharedKey,
 };
+use sha3_family::Sha3Hash;
 use std::alloc::Global;
 use std::time::CpuClock;
 
@@ -19,8 +20,6 @@ const HASHES: u32 = 256;
 /// The bytes that are hashed beside.
 const HASHED: usize = 8192;
 
-type Key<P> = DecapsulationKey<P, Sha2Hash>;
-
 /// A call of the KEM.
 #[derive(Clone, Copy, Debug)]
 enum Call {
@@ -31,17 +30,17 @@ enum Call {
 
 /// One call, made over and over.
 #[derive(Drop)]
-struct Calls<P: ParameterSet> {
+struct Calls<P: ParameterSet, H: KemHash> {
     alloc: Global,
     call: Call,
-    key: Key<P>,
+    key: DecapsulationKey<P, H>,
     ciphertext: Ciphertext<P>,
     shared: SharedKey,
 }
 
-impl<P: ParameterSet> Calls<P> {
-    fn new(alloc: Global, call: Call) -> Result<Calls<P>> {
-        let key = Key::<P>::from_seed(alloc, &[3; 64])?;
+impl<P: ParameterSet, H: KemHash> Calls<P, H> {
+    fn new(alloc: Global, call: Call) -> Result<Calls<P, H>> {
+        let key = DecapsulationKey::<P, H>::from_seed(alloc, &[3; 64])?;
         let made = key.encapsulation_key().encapsulate_deterministic(&[4; 32])?;
         let (ciphertext, shared) = made;
         Ok(Calls {
@@ -54,10 +53,10 @@ impl<P: ParameterSet> Calls<P> {
     }
 }
 
-impl<P: ParameterSet> Work for Calls<P> {
+impl<P: ParameterSet, H: KemHash> Work for Calls<P, H> {
     fn run(&mut self) -> Result<()> {
         match self.call {
-            Call::FromSeed => self.key = Key::<P>::from_seed(self.alloc, &[3; 64])?,
+            Call::FromSeed => self.key = DecapsulationKey::from_seed(self.alloc, &[3; 64])?,
             Call::Encapsulate => {
                 let key = self.key.encapsulation_key();
                 let made = key.encapsulate_deterministic(&self.shared)?;
@@ -73,24 +72,25 @@ impl<P: ParameterSet> Work for Calls<P> {
     }
 }
 
-fn print_set<P: ParameterSet>(
+fn print_set<P: ParameterSet, H: KemHash>(
     rt: &(impl Print + CpuClock + AllocGlobal),
     name: &str,
 ) -> Result<()> {
     for call in [Call::FromSeed, Call::Encapsulate, Call::Decapsulate] {
-        let mut calls = Calls::<P>::new(rt.alloc(), call)?;
+        let mut calls = Calls::<P, H>::new(rt.alloc(), call)?;
         let time = fastest(rt, &mut calls, RUNS)?;
         println!(rt; "{name} {call:?}: {} us", time.micros())?;
     }
     Ok(())
 }
 
-/// Prints the times of SHA-256 and of the three sets.
+/// Prints the times of SHA-256, of the three sets, and of one over the other family.
 pub fn print_all(rt: &(impl Print + CpuClock + AllocGlobal)) -> Result<()> {
     let mut hashing = Hashing::new(rt.alloc(), HASHED)?;
     let time = fastest(rt, &mut hashing, HASHES)?;
     println!(rt; "SHA-256 {HASHED}: {} us", time.micros())?;
-    print_set::<MlKem512>(rt, "ML-KEM-512")?;
-    print_set::<MlKem768>(rt, "ML-KEM-768")?;
-    print_set::<MlKem1024>(rt, "ML-KEM-1024")
+    print_set::<MlKem512, Sha2Hash>(rt, "ML-KEM-512")?;
+    print_set::<MlKem768, Sha2Hash>(rt, "ML-KEM-768")?;
+    print_set::<MlKem1024, Sha2Hash>(rt, "ML-KEM-1024")?;
+    print_set::<MlKem768, Sha3Hash>(rt, "ML-KEM-768 over SHA-3")
 }

@@ -1,8 +1,9 @@
-//! How fast AES-GCM and the lattice KEM are on this machine, beside SHA-256, and the transforms of
+//! How fast AES-GCM, SHA-3 and the lattice KEM are on this machine, beside SHA-256, and the transforms of
 //! polynomials: a tool for the hand.
 #![tactic(auto)]
 
 mod ciphers;
+mod hashes;
 mod lattice;
 mod stopwatch;
 mod transforms;
@@ -13,6 +14,7 @@ use std::env::{self, Env};
 
 /// What is printed where no word asks for a measurement.
 const USAGE: &str = "bench gcm    AES-GCM and SHA-256, in MB/s
+bench sha3   SHA3-256 and SHAKE128 over 16 KiB, in MB/s
 bench kem    the lattice KEM and SHA-256 over 8 KiB, in microseconds
 bench ntt    the transforms modulo 3329 and 8380417, in nanoseconds";
 
@@ -24,6 +26,7 @@ fn word(rt: &(impl Env + AllocGlobal)) -> Result<Option<String>> {
 fn main(rt: HostRuntime) -> Result<()> {
     match word(&rt)?.as_ref().map(|word| word.as_str()) {
         Some("gcm") => ciphers::print_all(&rt),
+        Some("sha3") => hashes::print_all(&rt),
         Some("kem") => lattice::print_all(&rt),
         Some("ntt") => transforms::print_all(&rt),
         _ => {
