@@ -41,7 +41,7 @@ form-product w f g turns =
     ap (λ x. x % 3329)
     (over-same 0 256 (λ k. get_or (product 3329 f g) k 0 * w k) (λ k. product_coefficient 3329 f g k * w k)
     (λ k low high. ap (λ x. x * w k) (get_or-map-range_with_len (product_coefficient 3329 f g) 0 256 k k 0 (omega arith) (omega arith))))
-    ∙ product-weighed f g w (λ k low. turns k)
+    ∙ product-weighed 3329 (omega arith) f g w (λ k low. turns k)
 
 -- either factor may give the weights
 pub form-exchanged : (w : ℕ → ℕ) (f g : List ℕ) → form (by g w) f ≡ form (by f w) g
