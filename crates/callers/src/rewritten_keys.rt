@@ -10,7 +10,10 @@ use std::alloc::Global;
 
 /// A private key's text in DER, as it is written again of the key that it holds: what is read is written
 /// again to the byte, and a key that was read has a seed.
-pub fn rewritten<P: ParameterSet, H: KemHash>(alloc: Global, der: &[u8]) -> Result<Vec<u8>, DerError>
+pub fn rewritten<P: ParameterSet, H: KemHash>(
+    alloc: Global,
+    der: &[u8],
+) -> Result<Vec<u8>, DerError>
     ensures same { IfOk result (λ text. text.items ≡ der.now) }
     ensures seed { result ≢ Err NoSeed }
 {
