@@ -1,14 +1,10 @@
 -- One answer more of a command, and one stanza more of a phase.
 use Rattle.std.proofs.Common.{◌≡◌, ◌≢◌, ℕ, Bool, true, false, not, List, [], ◌∷◌, ◌++◌, filter, Option, Some, None, Result, Ok, Err, refl, sym, ap, subst, ◌∙◌}
-use Rattle.std.specs.Prelude.{Vec, MatchOption, OnErr, IsErrAnd, codes}
+use Rattle.std.specs.Prelude.{Vec, MatchOption, OnErr, IsErrAnd}
 use Rattle.std.specs.List.{AllByRecursion}
-use Rattle.std.specs.Str.{bytes_eq}
-use Rattle.std.proofs.lemmas.Slice.Eq.{bytes_eq-Decides}
 use Rattle.std.proofs.lemmas.List.Elements.{filter-append}
 use Rattle.std.proofs.lemmas.List.{append-nil}
-use Rattle.age_core.specs.declared.format.Stanza.{Stanza}
-use Rattle.age_core.specs.Stanza.{Stanza as Spelled}
-use Rattle.age_core.specs.Reading.{NoneDone}
+use Rattle.age_format.specs.declared.format.Stanza.{Stanza}
 use Rattle.age_core.specs.Phases.{Commands, is_command, for_a, for_b, for_c, for_d, Calls, values, errors, ComesTo, Ran, MayTake, AnswersIfAsked, without_command}
 
 -- ---- answers
@@ -218,14 +214,3 @@ err_as (Err x) e f h same = cc
 
 pub same_err : {A E : Type 0} (e f : E) → ◌≡◌ {A = Result A E} (Err e) (Err f) → e ≡ f
 same_err e f h = cc
-
--- a stanza that is no `done`
-pub none_done-push : (ss : List Spelled) (s : Spelled) → NoneDone ss → s.tag ≢ codes "done" → NoneDone (ss ++ s ∷ [])
-none_done-push [] s h n = (n, tt)
-none_done-push (x ∷ xs) s h n = (h.0, none_done-push xs s h.1 n)
-
-pub not_done : (tag : List ℕ) → bytes_eq tag (codes "done") ≡ false → tag ≢ codes "done"
-not_done tag f e = let t = (bytes_eq-Decides tag (codes "done")).1 e in absurd cc
-
-pub is_done : (tag : List ℕ) → bytes_eq tag (codes "done") ≡ true → tag ≡ codes "done"
-is_done tag t = (bytes_eq-Decides tag (codes "done")).0 t

@@ -1,12 +1,1 @@
-pub mod Cases
-pub mod Words
-pub mod Lines
-pub mod Stanzas
-pub mod Readings
-pub mod Steps
-pub mod Scans
-pub mod Fronts
-pub mod Completions
-pub mod Receipts
-pub mod Looks
 pub mod Commands

@@ -1,5 +1,5 @@
 -- What is seen of a connection: its source, its sink, and what its reader holds.
-use Rattle.age_core.specs.Receiving.{Held}
+use Rattle.age_format.specs.Receiving.{Held}
 use Rattle.age_core.specs.declared.plugin.connection.Connection.{Connection}
 
 abbrev pub source_of : {R W : Type 0} → Connection R W → R

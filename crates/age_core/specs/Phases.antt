@@ -3,7 +3,7 @@ use Rattle.std.specs.Prelude.{◌≡◌, ◌≢◌, ℕ, Bool, true, false, not,
 use Rattle.std.specs.List.{AllByRecursion}
 use Rattle.std.specs.Str.{bytes_eq}
 use Rattle.std.specs.String.{string_bytes}
-use Rattle.age_core.specs.declared.format.Stanza.{Stanza}
+use Rattle.age_format.specs.declared.format.Stanza.{Stanza}
 
 -- the tags of the four commands of a phase, of which the last two may be left out
 pub record Commands : Type 0 where

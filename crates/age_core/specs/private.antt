@@ -2,7 +2,3 @@
 
 -- the tags that a phase is given
 pub mod Tags
--- the scan that tells a front
-pub mod Scan
--- the plain program that finds a stanza
-pub mod Parse

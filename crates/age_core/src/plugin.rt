@@ -1,17 +1,12 @@
 //! The plugin protocol: phases of stanzas between two sides.
 
 mod connection;
-mod reader;
 #[cfg(test)]
 mod tests;
 mod unidir;
 
-ghost use Rattle.std.specs.Prelude.{◌≡◌};
-ghost use Rattle.age_core.specs.declared.plugin.PhaseError.TheVariants.{NoMemory};
-
+pub use age_format::{PhaseError, StanzaReader};
 pub use connection::Connection;
-pub use reader::StanzaReader;
-use std::alloc::{AllocError, AllocFailed};
 use thiserror::Error;
 pub use unidir::UnidirAnswer;
 
@@ -32,41 +27,5 @@ pub enum Error {
     Unsupported,
 }
 
-/// Why a phase ended before its `done`.
-#[derive(Clone, Copy, Debug, PartialEq, Eq, Error)]
-pub enum PhaseError {
-    /// Memory ran out.
-    #[error("no memory")]
-    NoMemory,
-    /// The source failed.
-    #[error("the source failed")]
-    ReadFault,
-    /// What is held begins no stanza.
-    #[error("the bytes are no stanza")]
-    InvalidData,
-    /// The source ended inside a stanza or between two.
-    #[error("the source ended before the phase did")]
-    UnexpectedEof,
-    /// The budget ended inside a stanza or between two.
-    #[error("the budget ended before the phase did")]
-    TooMuch,
-}
-
 /// What a command comes to: an answer of the other side, or why there is none.
 pub type Result<T> = std::result::Result<std::result::Result<T, Error>, PhaseError>;
-
-impl From<AllocError> for PhaseError {
-    ghost from_gives = { λ _ e. e ≡ NoMemory };
-
-    fn from(_e: AllocError) -> PhaseError {
-        PhaseError::NoMemory
-    }
-}
-
-impl<T: Drop> From<AllocFailed<T>> for PhaseError {
-    ghost from_gives = { λ _ e. e ≡ NoMemory };
-
-    fn from(_e: AllocFailed<T>) -> PhaseError {
-        PhaseError::NoMemory
-    }
-}

@@ -1,14 +1,13 @@
-//! A caller of `age_core`.
+//! A caller of `age_format`.
 
 ghost use Rattle.std.specs.Prelude.{[], ◌∷◌, codes, IfOk};
-ghost use Rattle.age_core.specs.Outside.{Writes};
-ghost use Rattle.age_core.specs.Stanza.{Stanza as Spelled, stanza_of, spelling};
-ghost use Rattle.age_core.specs.Receiving.{Held, Receives, fresh};
+ghost use Rattle.age_format.specs.Outside.{Writes};
+ghost use Rattle.age_format.specs.Stanza.{Stanza as Spelled, stanza_of, spelling};
+ghost use Rattle.age_format.specs.Receiving.{Held, Receives, fresh};
 
-use age_core::format::Stanza;
-use age_core::laws;
-use age_core::outside::{Failed, Sink, Source, write_all};
-use age_core::plugin::{PhaseError, StanzaReader};
+use age_format::format::Stanza;
+use age_format::outside::{Failed, Sink, Source, write_all};
+use age_format::{PhaseError, StanzaReader, laws};
 use std::alloc::Global;
 
 /// Ends a phase: exactly the spelling of `done` is written, or at a fault a part of it.

@@ -1,7 +1,7 @@
 //! The program: it collects its words and runs over the standard streams.
 #![tactic(auto)]
 
-use age_core::outside::{StdSink, StdSource};
+use age_format::outside::{StdSink, StdSource};
 use kem_hash::Sha2Hash;
 use kem_mail::mail_main;
 use std::alloc::Global;

@@ -2,7 +2,7 @@
 use Rattle.std.proofs.Common.{◌≡◌, ◌⊎◌, ℕ, List, ◌++◌, Option, Some, None, Ok, Err, refl, sym, subst, ◌∙◌, inl, inr, arith}
 use Rattle.std.specs.Prelude.{IfSome}
 use Rattle.kem_hash.specs.Family.{Family}
-use Rattle.age_core.specs.Outside.{Gains}
+use Rattle.age_format.specs.Outside.{Gains}
 use Rattle.kem_mail.specs.Command.{Spells}
 use Rattle.kem_mail.specs.Due.{Due, ComesTo, EndsWith, HoldsMail, IsAnswer, Outcome, outcome_output, outcome_status}
 use Rattle.kem_mail.specs.Lines.{lines}

@@ -10,7 +10,7 @@ use Rattle.ml_kem.specs.Keys.{Key, key_of}
 use Rattle.ml_kem.specs.Expanded.{SecretKey, key_of_seed}
 use Rattle.ml_kem.specs.declared.error.KemError.{KemError}
 use Rattle.ml_kem.specs.declared.error.KemError.TheVariants.{NoMemory as KemNoMemory, XofExhausted as KemXofExhausted}
-use Rattle.age_core.specs.Stanza.{spelling}
+use Rattle.age_format.specs.Stanza.{spelling}
 use Rattle.hpke.specs.Schedule.{KdfAlgorithm, AeadAlgorithm, suite_of}
 use Rattle.hpke.specs.Lattice.{lattice_kem_id, lattice_decap}
 use Rattle.kem_mail.specs.Mail.{IsVerdict, OpenMeaning, Opens, OpensByKey, Verdict, opener_of}

@@ -4,7 +4,7 @@ use Rattle.std.specs.Prelude.{IfSome}
 use Rattle.std.proofs.lemmas.List.{append-nil, length-append, nil_from_length, take-append-le, take-take}
 use Rattle.kem_hash.specs.Family.{Family}
 use Rattle.ml_kem.specs.Keys.{Key as KeyRecord, key_of}
-use Rattle.age_core.specs.Outside.{Rose}
+use Rattle.age_format.specs.Outside.{Rose}
 use Rattle.kem_mail.specs.Command.{parameters, kdf_algorithm, aead_algorithm, aead_open}
 use Rattle.kem_mail.specs.Input.{IsHead, IsLineText, IsSeedLine, IsPart, FailsAt, BeginsNone}
 use Rattle.kem_mail.specs.Mail.{IsVerdict, OpensByKey, Verdict}

@@ -3,8 +3,8 @@ use Rattle.std.proofs.Common.{◌≡◌, ℕ, ◌+◌, ◌<◌, ◌≤◌, true,
 use Rattle.std.specs.Str.{bytes_eq}
 use Rattle.std.proofs.lemmas.List.{map-append, map_push, append-nil, take_more, take_all, drop_more, drop_all}
 use Rattle.std.proofs.lemmas.List.Elements.{filter-append}
-use Rattle.age_core.specs.Stanza.{Stanza, stanza_of}
-use Rattle.age_core.specs.declared.format.Stanza.{Stanza as Held}
+use Rattle.age_format.specs.Stanza.{Stanza, stanza_of}
+use Rattle.age_format.specs.declared.format.Stanza.{Stanza as Held}
 use Rattle.kem_mail.specs.Mail.{bodies}
 
 bodies-append : (tag : List ℕ) (xs ys : List Stanza) → bodies tag (xs ++ ys) ≡ bodies tag xs ++ bodies tag ys

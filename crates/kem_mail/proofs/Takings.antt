@@ -5,15 +5,15 @@ use Rattle.std.specs.List.{flat_map, AllByRecursion}
 use Rattle.std.proofs.lemmas.Bool.{cases_lt}
 use Rattle.std.proofs.lemmas.List.{append-nil, length-append}
 use Rattle.std.proofs.lemmas.List.Concat.{flat_map-append}
-use Rattle.age_core.specs.Stanza.{Stanza, IsStanza, IsFront, spelling}
-use Rattle.age_core.specs.Front.{BeginsNone, IsMalformed}
-use Rattle.age_core.specs.Reading.{IsDone, NoneDone, HasNoDone, Reads, Reading, Before_done, Invalid_data, Unexpected_eof, Too_much}
-use Rattle.age_core.specs.Receiving.{Held, Took, Receives, fresh}
-use Rattle.age_core.specs.declared.plugin.PhaseError.{PhaseError}
-use Rattle.age_core.specs.declared.plugin.PhaseError.TheVariants.{NoMemory as PhaseNoMemory, ReadFault as PhaseReadFault, InvalidData as PhaseInvalidData, UnexpectedEof as PhaseUnexpectedEof, TooMuch as PhaseTooMuch}
-use Rattle.age_core.proofs.Stanzas.{the_same_stanza}
-use Rattle.age_core.proofs.Commands.{none_done-push}
-use Rattle.age_core.proofs.Receipts.{front_begins_none, receives_none, receives_both, receives_unpaid, reads_done, reads_invalid, reads_ended, reads_spent}
+use Rattle.age_format.specs.Stanza.{Stanza, IsStanza, IsFront, spelling}
+use Rattle.age_format.specs.Front.{BeginsNone, IsMalformed}
+use Rattle.age_format.specs.Reading.{IsDone, NoneDone, HasNoDone, Reads, Reading, Before_done, Invalid_data, Unexpected_eof, Too_much}
+use Rattle.age_format.specs.Receiving.{Held, Took, Receives, fresh}
+use Rattle.age_format.specs.declared.error.PhaseError.{PhaseError}
+use Rattle.age_format.specs.declared.error.PhaseError.TheVariants.{NoMemory as PhaseNoMemory, WriteFault as PhaseWriteFault, ReadFault as PhaseReadFault, InvalidData as PhaseInvalidData, UnexpectedEof as PhaseUnexpectedEof, TooMuch as PhaseTooMuch}
+use Rattle.age_format.proofs.Stanzas.{the_same_stanza}
+use Rattle.age_format.proofs.Dones.{none_done-push}
+use Rattle.age_format.proofs.Receipts.{front_begins_none, receives_none, receives_both, receives_unpaid, reads_done, reads_invalid, reads_ended, reads_spent}
 use Rattle.kem_mail.specs.Taken.{Lost, IsShortBehindDone, StoppedBy}
 use Rattle.kem_mail.specs.Causes.{of_phase}
 use Rattle.kem_mail.specs.private.Opening.{IsRead, IsRefusedFor, ReadTaken}
@@ -200,6 +200,7 @@ module _ (budget : ℕ) (now : Held) (l m : Option (List ℕ)) (stanzas : List S
 
   stopped_by : (phase : PhaseError) (mid : Option (List ℕ)) → Refused phase now mid m → StoppedBy (Err (of_phase phase)) budget r.taken
   stopped_by PhaseNoMemory mid refused = tt
+  stopped_by PhaseWriteFault mid refused = tt
   stopped_by PhaseReadFault mid refused =
       let said = refused.read_fault refl in
       let p = r.paid in
@@ -241,6 +242,7 @@ module _ (budget : ℕ) (next : Held) (m n : Option (List ℕ)) (stanzas : List 
   refused_reads : (text : List ℕ) (phase : PhaseError) → Receives (fresh budget) next (Some text) n stanzas → NoneDone stanzas
       → (phase ≡ PhaseUnexpectedEof → n ≡ Some []) → Refused phase next m n → IsRefusedFor phase text budget
   refused_reads text PhaseNoMemory r none ended refused = tt
+  refused_reads text PhaseWriteFault r none ended refused = tt
   refused_reads text PhaseReadFault r none ended refused = tt
   refused_reads text PhaseInvalidData r none ended refused = from_fresh text budget Invalid_data (reads_invalid (fresh budget) next text n stanzas r none (refused.invalid_data refl))
   refused_reads text PhaseUnexpectedEof r none ended refused =
@@ -268,6 +270,7 @@ read_unheld view budget (Some text) result is = rw is (PhaseNoMemory, refl, tt)
 
 ended_phase : (phase : PhaseError) → of_phase phase ≡ UnexpectedEof → phase ≡ PhaseUnexpectedEof
 ended_phase PhaseNoMemory e = absurd cc
+ended_phase PhaseWriteFault e = absurd cc
 ended_phase PhaseReadFault e = absurd cc
 ended_phase PhaseInvalidData e = absurd cc
 ended_phase PhaseUnexpectedEof e = refl
@@ -275,6 +278,7 @@ ended_phase PhaseTooMuch e = absurd cc
 
 fault_phase : (phase : PhaseError) → of_phase phase ≡ ReadFault → phase ≡ PhaseReadFault
 fault_phase PhaseNoMemory e = absurd cc
+fault_phase PhaseWriteFault e = absurd cc
 fault_phase PhaseReadFault e = refl
 fault_phase PhaseInvalidData e = absurd cc
 fault_phase PhaseUnexpectedEof e = absurd cc

@@ -1,11 +1,11 @@
 -- What a mail comes to.
 use Rattle.std.proofs.Common.{◌≡◌, ◌≢◌, ℕ, ◌+◌, true, List, [], ◌∷◌, length, Option, Some, None, refl, sym, ap, subst, ◌∙◌, ◌⊎◌, inl, inr, arith}
 use Rattle.std.specs.Prelude.{◌==◌, if◌then◌else◌, Bool, false, IfSome, Ok, Err, codes}
-use Rattle.age_core.specs.Stanza.{Stanza}
-use Rattle.age_core.specs.Reading.{Reading, Reads, Before_done, Invalid_data, Unexpected_eof, Too_much}
-use Rattle.age_core.specs.declared.plugin.PhaseError.{PhaseError}
-use Rattle.age_core.specs.declared.plugin.PhaseError.TheVariants.{NoMemory as PhaseNoMemory, ReadFault as PhaseReadFault, InvalidData as PhaseInvalidData, UnexpectedEof as PhaseUnexpectedEof, TooMuch as PhaseTooMuch}
-use Rattle.age_core.proofs.Readings.{same_reading, some_reading}
+use Rattle.age_format.specs.Stanza.{Stanza}
+use Rattle.age_format.specs.Reading.{Reading, Reads, Before_done, Invalid_data, Unexpected_eof, Too_much}
+use Rattle.age_format.specs.declared.error.PhaseError.{PhaseError}
+use Rattle.age_format.specs.declared.error.PhaseError.TheVariants.{NoMemory as PhaseNoMemory, WriteFault as PhaseWriteFault, ReadFault as PhaseReadFault, InvalidData as PhaseInvalidData, UnexpectedEof as PhaseUnexpectedEof, TooMuch as PhaseTooMuch}
+use Rattle.age_format.proofs.Readings.{same_reading, some_reading}
 use Rattle.hpke.specs.Schedule.{Context}
 use Rattle.kem_mail.specs.Mail.{Verdict, IsVerdict, Opener, Opens, SameBodies, bodies, with_first, open_at, opened, opened_with, judged_bodies, judged}
 use Rattle.kem_mail.specs.Taken.{Lost, HoldsDone, StoppedBy, IsTaken}
@@ -181,6 +181,7 @@ done_taken opener stanzas result judges key (Some text) m budget x taken =
 module _ {X : Type 0} (view : X → List Stanza) (opener : Opener) where
   refused_as : (text : List ℕ) (budget : ℕ) (phase : PhaseError) → IsRefusedFor phase text budget → IsVerdict (Err (of_phase phase)) → Opens opener text budget (Err (of_phase phase))
   refused_as text budget PhaseNoMemory read is = absurd (is.0 refl)
+  refused_as text budget PhaseWriteFault read is = absurd (is.0 refl)
   refused_as text budget PhaseReadFault read is = absurd (is.1 refl)
   refused_as text budget PhaseInvalidData read is = record { reading = Invalid_data; reads = read; verdict_is = refl }
   refused_as text budget PhaseUnexpectedEof read is = record { reading = Unexpected_eof; reads = read; verdict_is = refl }
@@ -194,6 +195,7 @@ module _ {X : Type 0} (view : X → List Stanza) (opener : Opener) where
   complete_refused : (text : List ℕ) (budget : ℕ) (phase : PhaseError) (v : Verdict) → IsRefusedFor phase text budget → Opens opener text budget v → of_phase phase ≢ ReadFault
       → (Err (of_phase phase) ≡ v) ⊎ (◌≡◌ {A = Verdict} (Err (of_phase phase)) (Err NoMemory))
   complete_refused text budget PhaseNoMemory v read opens calm = inr refl
+  complete_refused text budget PhaseWriteFault v read opens calm = inr refl
   complete_refused text budget PhaseReadFault v read opens calm = absurd (calm refl)
   complete_refused text budget PhaseInvalidData v read opens calm = inl (same_verdict opener text budget (Err InvalidData) v (refused_as text budget PhaseInvalidData read ((λ e. cc e), (λ e. cc e))) opens)
   complete_refused text budget PhaseUnexpectedEof v read opens calm = inl (same_verdict opener text budget (Err UnexpectedEof) v (refused_as text budget PhaseUnexpectedEof read ((λ e. cc e), (λ e. cc e))) opens)
@@ -208,6 +210,7 @@ module _ {X : Type 0} (view : X → List Stanza) (opener : Opener) where
 
 phase_has_key : (phase : PhaseError) → of_phase phase ≢ XofExhausted
 phase_has_key PhaseNoMemory e = cc e
+phase_has_key PhaseWriteFault e = cc e
 phase_has_key PhaseReadFault e = cc e
 phase_has_key PhaseInvalidData e = cc e
 phase_has_key PhaseUnexpectedEof e = cc e

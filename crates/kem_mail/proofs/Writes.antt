@@ -6,7 +6,7 @@ use Rattle.std.proofs.lemmas.List.{append-nil, nil_from_length, take-append-drop
 use Rattle.std.proofs.lemmas.List.Concat.{flat_map-append}
 use Rattle.std.proofs.lemmas.Option.{none-some}
 use Rattle.hex.specs.Hex.{encode_with, encode_lower, lower_digits}
-use Rattle.age_core.specs.Outside.{Gains, GainsPart, Rose, Wrote, WrotePart, Writes}
+use Rattle.age_format.specs.Outside.{Gains, GainsPart, Rose, Wrote, WrotePart, Writes}
 use Rattle.kem_mail.specs.Lines.{lines, spaced}
 use Rattle.kem_mail.specs.private.Telling.{Hands}
 

@@ -1,14 +1,15 @@
 -- Which error of a mail comes of an error of another crate.
 use Rattle.ml_kem.specs.declared.error.KemError.{KemError}
 use Rattle.ml_kem.specs.declared.error.KemError.TheVariants.{NoMemory as KemNoMemory, XofExhausted as KemXofExhausted}
-use Rattle.age_core.specs.declared.plugin.PhaseError.{PhaseError}
-use Rattle.age_core.specs.declared.plugin.PhaseError.TheVariants.{NoMemory as PhaseNoMemory, ReadFault as PhaseReadFault, InvalidData as PhaseInvalidData, UnexpectedEof as PhaseUnexpectedEof, TooMuch as PhaseTooMuch}
+use Rattle.age_format.specs.declared.error.PhaseError.{PhaseError}
+use Rattle.age_format.specs.declared.error.PhaseError.TheVariants.{NoMemory as PhaseNoMemory, WriteFault as PhaseWriteFault, ReadFault as PhaseReadFault, InvalidData as PhaseInvalidData, UnexpectedEof as PhaseUnexpectedEof, TooMuch as PhaseTooMuch}
 use Rattle.kem_mail.specs.declared.error.MailError.{MailError}
 use Rattle.kem_mail.specs.declared.error.MailError.TheVariants.{NoMemory, XofExhausted, ReadFault, InvalidData, UnexpectedEof, TooMuch}
 
--- of a phase that was refused
+-- of a phase that was refused; one that only receives has no fault of a sink
 abbrev pub of_phase : PhaseError → MailError
 of_phase PhaseNoMemory = NoMemory
+of_phase PhaseWriteFault = NoMemory
 of_phase PhaseReadFault = ReadFault
 of_phase PhaseInvalidData = InvalidData
 of_phase PhaseUnexpectedEof = UnexpectedEof

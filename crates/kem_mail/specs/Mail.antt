@@ -4,8 +4,8 @@ use Rattle.std.specs.Str.{bytes_eq}
 use Rattle.kem_hash.specs.Family.{Family}
 use Rattle.ml_kem.specs.Parameters.{Parameters}
 use Rattle.ml_kem.specs.Keys.{key_of}
-use Rattle.age_core.specs.Stanza.{Stanza}
-use Rattle.age_core.specs.Reading.{Reading, Reads, Before_done, Invalid_data, Unexpected_eof, Too_much}
+use Rattle.age_format.specs.Stanza.{Stanza}
+use Rattle.age_format.specs.Reading.{Reading, Reads, Before_done, Invalid_data, Unexpected_eof, Too_much}
 use Rattle.hpke.specs.Schedule.{Suite, KdfAlgorithm, AeadAlgorithm, Context, mode_base, receiver_setup, suite_of}
 use Rattle.hpke.specs.Nonce.{nonce_of}
 use Rattle.hpke.specs.Lattice.{lattice_kem_id, lattice_decap}

@@ -1,7 +1,7 @@
 -- A run of a command: what it ended with, what it told, and what it took.
 use Rattle.std.specs.Prelude.{◌≡◌, ◌≢◌, ℕ, List, [], Option, Some, IfSome, Err, ◌⊎◌}
 use Rattle.kem_hash.specs.Family.{Family}
-use Rattle.age_core.specs.Outside.{Rose, Wrote, WrotePart}
+use Rattle.age_format.specs.Outside.{Rose, Wrote, WrotePart}
 use Rattle.kem_mail.specs.Due.{EndsWith, IsAnswer, Outcome, outcome_status}
 use Rattle.kem_mail.specs.Taken.{Lost, IsAtEnd, Takes}
 use Rattle.kem_mail.specs.declared.command.Command.{Command}

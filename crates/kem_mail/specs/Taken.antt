@@ -3,8 +3,8 @@ use Rattle.std.specs.Prelude.{◌≡◌, ℕ, ◌+◌, ◌<◌, ◌≤◌, List,
 use Rattle.std.specs.List.{flat_map, AllByRecursion}
 use Rattle.kem_hash.specs.Family.{Family}
 use Rattle.ml_kem.specs.Keys.{key_of}
-use Rattle.age_core.specs.Stanza.{Stanza, IsStanza, IsFront, spelling}
-use Rattle.age_core.specs.Reading.{HasNoDone, IsDone, NoneDone, StandsBeforeDone}
+use Rattle.age_format.specs.Stanza.{Stanza, IsStanza, IsFront, spelling}
+use Rattle.age_format.specs.Reading.{HasNoDone, IsDone, NoneDone, StandsBeforeDone}
 use Rattle.kem_mail.specs.Command.{parameters}
 use Rattle.kem_mail.specs.Input.{IsHead, IsSeedLine, IsPart, FailsAt}
 use Rattle.kem_mail.specs.Mail.{Verdict}

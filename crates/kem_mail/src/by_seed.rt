@@ -1,7 +1,7 @@
 //! Opening a mail with the lattice key of a seed.
 
 ghost use Rattle.std.specs.Prelude.{◌≡◌, ◌≢◌, ◌≤◌, ◌⊎◌, [], None, Err, IfSome, IsErrOf, Some};
-ghost use Rattle.age_core.specs.Outside.{Rose};
+ghost use Rattle.age_format.specs.Outside.{Rose};
 ghost use Rattle.ml_kem.specs.Keys.{key_of};
 ghost use Rattle.kem_mail.specs.Mail.{OpensByKey, IsVerdict, Verdict};
 ghost use Rattle.kem_mail.specs.Taken.{Lost, IsTaken};
@@ -9,7 +9,7 @@ ghost use Rattle.kem_mail.specs.Taken.{Lost, IsTaken};
 use crate::error::MailError;
 use crate::list::MessageList;
 use crate::open::open_with;
-use age_core::outside::Source;
+use age_format::outside::Source;
 use hpke::{Aead, Kdf, LatticeKem, LatticePrivateKey};
 use kem_hash::KemHash;
 use ml_kem::{DecapsulationKey, ParameterSet, Seed};

@@ -5,7 +5,7 @@ ghost use Rattle.kem_mail.specs.Causes.{of_phase, of_kem};
 ghost use Rattle.kem_mail.specs.declared.error.MailError.TheVariants.{NoMemory};
 ghost use Rattle.kem_mail.specs.declared.error.RunError.TheVariants.{Mail};
 
-use age_core::plugin::PhaseError;
+use age_format::PhaseError;
 use ml_kem::KemError;
 use std::alloc::{AllocError, AllocFailed};
 use thiserror::Error;
@@ -63,7 +63,7 @@ impl From<PhaseError> for MailError {
 
     fn from(e: PhaseError) -> MailError {
         match e {
-            PhaseError::NoMemory => MailError::NoMemory,
+            PhaseError::NoMemory | PhaseError::WriteFault => MailError::NoMemory,
             PhaseError::ReadFault => MailError::ReadFault,
             PhaseError::InvalidData => MailError::InvalidData,
             PhaseError::UnexpectedEof => MailError::UnexpectedEof,

@@ -3,13 +3,13 @@
 ghost use Rattle.std.specs.Prelude.{◌≡◌, ◌≤◌, ◌<◌, ◌+◌, ◌*◌, ◌%◌, ◌↔◌, ℕ, List, [], Ok, IfErr, IfOk, IfSome, IsErrOf, IsTrue, Some, length, ◌^◌, ◌⊎◌};
 ghost use Rattle.std.specs.List.{AllPass};
 ghost use Rattle.hex.specs.Hex.{decode_of, is_hex_digit};
-ghost use Rattle.age_core.specs.Outside.{Rose};
+ghost use Rattle.age_format.specs.Outside.{Rose};
 ghost use Rattle.kem_mail.specs.Input.{IsHead, IsHeadText, IsLine, IsLineText, IsSeedLine, seed_digits};
 ghost use Rattle.kem_mail.specs.Taken.{Lost};
 ghost use Rattle.kem_mail.specs.private.InputParts.{ByteTaken, InputTaken, behind};
 
 use crate::error::{MailError, RunError};
-use age_core::outside::{Failed, Source};
+use age_format::outside::{Failed, Source};
 use hex::FromHexError;
 use ml_kem::Seed;
 use std::alloc::Global;

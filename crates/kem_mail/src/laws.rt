@@ -6,7 +6,7 @@ ghost use Rattle.std.specs.String.{string_bytes};
 ghost use Rattle.kem_hash.specs.Family.{Family};
 ghost use Rattle.ml_kem.specs.Parameters.{Parameters};
 ghost use Rattle.hpke.specs.Schedule.{KdfAlgorithm, AeadAlgorithm};
-ghost use Rattle.age_core.specs.Outside.{Rose, Gains, GainsPart};
+ghost use Rattle.age_format.specs.Outside.{Rose, Gains, GainsPart};
 ghost use Rattle.kem_mail.specs.Command.{Spells, words_of, greatest_budget};
 ghost use Rattle.kem_mail.specs.Due.{Due, HoldsMail, IsAnswer};
 ghost use Rattle.kem_mail.specs.Input.{IsHeadText, seed_digits, most_info_digits};
@@ -17,7 +17,7 @@ ghost use Rattle.kem_mail.specs.Taken.{Lost, Takes};
 use crate::command::{AeadName, Command, KdfName, SetName, SuiteName};
 use crate::error::{MailError, RunError};
 use crate::run::mail_main;
-use age_core::outside::{CleanSource, MemSink, Sink, Source};
+use age_format::outside::{CleanSource, MemSink, Sink, Source};
 use kem_hash::KemHash;
 use std::alloc::Global;
 

@@ -2,14 +2,14 @@
 
 ghost use Rattle.std.specs.Prelude.{◌≡◌, ◌≤◌, ◌∷◌, ◌++◌, [], length, decimal};
 ghost use Rattle.hex.specs.Hex.{encode_lower};
-ghost use Rattle.age_core.specs.Outside.{Writes};
+ghost use Rattle.age_format.specs.Outside.{Writes};
 ghost use Rattle.kem_mail.specs.Lines.{lines, spaced, fault_line, error_line};
 ghost use Rattle.kem_mail.specs.private.Telling.{Passes};
 
 use crate::error::{MailError, RunError};
 use crate::list::ItemList;
 use crate::pending::{PIECE, Pending};
-use age_core::outside::{Failed, Sink, write_all};
+use age_format::outside::{Failed, Sink, write_all};
 use itoa::Buffer;
 
 // The most bytes whose digits are appended at once: a piece has room for them.

@@ -2,8 +2,8 @@
 
 ghost use Rattle.std.specs.Prelude.{◌≡◌, ◌≢◌, ◌≤◌, ◌<◌, ◌^◌, ◌+◌, ◌⊎◌, ℕ, List, [], length, map, codes, Some, None, Ok, Err, Option, IfOk, IfErr, IfNone, IfSome, IsTrue, IsErrOf, OnOk};
 ghost use Rattle.std.specs.Option.{option_copied};
-ghost use Rattle.age_core.specs.Outside.{Rose};
-ghost use Rattle.age_core.specs.Stanza.{stanza_of};
+ghost use Rattle.age_format.specs.Outside.{Rose};
+ghost use Rattle.age_format.specs.Stanza.{stanza_of};
 ghost use Rattle.hpke.specs.Schedule.{Context, suite_of};
 ghost use Rattle.kem_mail.specs.Mail.{Opener, Opens, IsVerdict, Verdict, bodies, judged_bodies, open_at, opened, opener_of};
 ghost use Rattle.kem_mail.specs.Taken.{Lost, IsTaken};
@@ -13,9 +13,9 @@ ghost use Rattle.kem_mail.specs.private.Opening.{IsRead, ReadTaken};
 
 use crate::error::MailError;
 use crate::list::MessageList;
-use age_core::format::Stanza;
-use age_core::outside::Source;
-use age_core::plugin::{PhaseError, StanzaReader};
+use age_format::format::Stanza;
+use age_format::outside::Source;
+use age_format::{PhaseError, StanzaReader};
 use hpke::{Aead, AeadCtxR, Deserializable, HpkeError, Kdf, Kem, OpModeR, setup_receiver};
 use std::alloc::Global;
 

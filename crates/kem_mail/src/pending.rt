@@ -3,10 +3,10 @@
 
 ghost use Rattle.std.specs.Prelude.{◌≡◌, ◌≤◌, ◌+◌, ◌*◌, ◌++◌, ◌∷◌, [], length, OnOk};
 ghost use Rattle.hex.specs.Hex.{encode_lower};
-ghost use Rattle.age_core.specs.Outside.{Writes};
+ghost use Rattle.age_format.specs.Outside.{Writes};
 ghost use Rattle.kem_mail.specs.private.Telling.{Passes};
 
-use age_core::outside::{Failed, Sink, write_all};
+use age_format::outside::{Failed, Sink, write_all};
 use std::marker::Model;
 
 // The most bytes that are handed over at once.

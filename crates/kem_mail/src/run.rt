@@ -2,7 +2,7 @@
 
 ghost use Rattle.std.specs.Prelude.{◌≡◌, ◌≢◌, ◌≤◌, ◌⊎◌, ◌∷◌, ℕ, List, [], map, Err, IfSome};
 ghost use Rattle.std.specs.String.{string_bytes};
-ghost use Rattle.age_core.specs.Outside.{Rose, Gains, GainsPart};
+ghost use Rattle.age_format.specs.Outside.{Rose, Gains, GainsPart};
 ghost use Rattle.ml_kem.specs.Keys.{key_of};
 ghost use Rattle.kem_mail.specs.Command.{Spells, parameters, kdf_algorithm, aead_algorithm, aead_open};
 ghost use Rattle.kem_mail.specs.Due.{Due, IsAnswer, Outcome, key_verdict, outcome_status, outcome_output};
@@ -19,7 +19,7 @@ use crate::error::{MailError, RunError};
 use crate::input::{Head, next_head, next_seed};
 use crate::lines::{write_error, write_fault_line, write_lines};
 use crate::list::{ItemList, MessageList};
-use age_core::outside::{Failed, Sink, Source};
+use age_format::outside::{Failed, Sink, Source};
 use hpke::{AesGcm128, AesGcm256, HkdfSha256, HkdfSha384, HkdfSha512, Kdf};
 use kem_hash::KemHash;
 use ml_kem::{DecapsulationKey, MlKem512, MlKem768, MlKem1024, ParameterSet, Seed};

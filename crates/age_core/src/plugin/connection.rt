@@ -1,14 +1,14 @@
 //! A connection to the other side: what it sends is received, and what goes to it is sent.
 
 ghost use Rattle.std.specs.Prelude.{◌≡◌, ◌≤◌, ◌<◌, ◌++◌, ◌⊎◌, ℕ, List, [], ◌∷◌, length, Some, IfOk, IfSome, IsErrOf, OnOk, OnErr};
-ghost use Rattle.age_core.specs.Outside.{Rose};
-ghost use Rattle.age_core.specs.Stanza.{Stanza as Spelled, IsStanza, IsFront, stanza_of, spelling};
-ghost use Rattle.age_core.specs.Front.{BeginsNone, IsMalformed};
-ghost use Rattle.age_core.specs.Receiving.{Receives, fresh};
+ghost use Rattle.age_format.specs.Outside.{Rose};
+ghost use Rattle.age_format.specs.Stanza.{Stanza as Spelled, IsStanza, IsFront, stanza_of, spelling};
+ghost use Rattle.age_format.specs.Front.{BeginsNone, IsMalformed};
+ghost use Rattle.age_format.specs.Receiving.{Receives, fresh};
 
-use super::{PhaseError, StanzaReader};
-use crate::format::Stanza;
-use crate::outside::{Sink, Source, StdSink, StdSource};
+use age_format::format::Stanza;
+use age_format::outside::{Sink, Source, StdSink, StdSource};
+use age_format::{PhaseError, StanzaReader};
 use std::alloc::Global;
 use std::io::{Read, Write};
 
@@ -73,6 +73,7 @@ impl<R: Source, W: Sink> Connection<R, W> {
         ensures read_fault { IsErrOf result PhaseError.ReadFault → Rose (R.faults (source_of self.old)) (R.faults (source_of self.new))
             × IsFront (held_by self.new).bytes × (0 < (held_by self.new).budget) }
         ensures no_fault { (IsErrOf result PhaseError.ReadFault → ⊥) → R.faults (source_of self.new) ≡ R.faults (source_of self.old) }
+        ensures no_write_fault { IsErrOf result PhaseError.WriteFault → ⊥ }
         ensures invalid_data { IsErrOf result PhaseError.InvalidData → IsMalformed (held_by self.new).bytes }
         ensures unexpected_eof { IsErrOf result PhaseError.UnexpectedEof → IsFront (held_by self.new).bytes × (0 < (held_by self.new).budget)
             × IfSome (R.left (source_of self.old)) (λ text. R.left (source_of self.new) ≡ Some []) }

@@ -2,18 +2,19 @@
 
 ghost use Rattle.std.specs.Prelude.{◌≡◌, ◌<◌, ◌≤◌, ◌⊎◌, List, [], ◌∷◌, ◌++◌, length, map, Some, None, true, Result as Res, IfOk, IfSome, IsErrOf, OnOk, OnErr, MatchOption};
 ghost use Rattle.std.specs.Option.{option_copied};
-ghost use Rattle.age_core.specs.declared.format.Stanza.{Stanza as Held-Stanza};
-ghost use Rattle.age_core.specs.Outside.{Rose};
-ghost use Rattle.age_core.specs.Stanza.{Stanza as Stanza-spelled, IsFront, stanza_of};
-ghost use Rattle.age_core.specs.Front.{IsMalformed};
-ghost use Rattle.age_core.specs.Reading.{IsDone, NoneDone, StandsBeforeDone};
-ghost use Rattle.age_core.specs.Receiving.{Receives};
+ghost use Rattle.age_format.specs.declared.format.Stanza.{Stanza as Held-Stanza};
+ghost use Rattle.age_format.specs.Outside.{Rose};
+ghost use Rattle.age_format.specs.Stanza.{Stanza as Stanza-spelled, IsFront, stanza_of};
+ghost use Rattle.age_format.specs.Front.{IsMalformed};
+ghost use Rattle.age_format.specs.Reading.{IsDone, NoneDone, StandsBeforeDone};
+ghost use Rattle.age_format.specs.Receiving.{Receives};
 ghost use Rattle.age_core.specs.Phases.{Commands, Answers, AnswersIfAsked, is_command, for_a, for_b, for_c, for_d, ComesTo, MayTake, Ran};
 ghost use Rattle.age_core.specs.private.Tags.{commands_of};
 
-use super::{Connection, PhaseError};
-use crate::format::Stanza;
-use crate::outside::{Sink, Source};
+use super::Connection;
+use age_format::PhaseError;
+use age_format::format::Stanza;
+use age_format::outside::{Sink, Source};
 use std::alloc::{AllocError, Global};
 use std::result::Result;
 
@@ -226,6 +227,7 @@ impl<R: Source, W: Sink> Connection<R, W> {
         ensures read_fault { IsErrOf result PhaseError.ReadFault → Rose (R.faults (source_of self.old)) (R.faults (source_of self.new))
             × IsFront (held_by self.new).bytes × (0 < (held_by self.new).budget) }
         ensures no_fault { (IsErrOf result PhaseError.ReadFault → ⊥) → R.faults (source_of self.new) ≡ R.faults (source_of self.old) }
+        ensures no_write_fault { IsErrOf result PhaseError.WriteFault → ⊥ }
         ensures invalid_data { IsErrOf result PhaseError.InvalidData → IsMalformed (held_by self.new).bytes }
         ensures unexpected_eof { IsErrOf result PhaseError.UnexpectedEof → IsFront (held_by self.new).bytes × (0 < (held_by self.new).budget)
             × IfSome (R.left (source_of self.old)) (λ text. R.left (source_of self.new) ≡ Some []) }

@@ -4,11 +4,11 @@ use Rattle.kem_hash.specs.Family.{Family}
 use Rattle.ml_kem.specs.Parameters.{Parameters}
 use Rattle.ml_kem.specs.Keys.{key_of}
 use Rattle.hpke.specs.Schedule.{KdfAlgorithm, AeadAlgorithm}
-use Rattle.age_core.specs.Outside.{Rose}
-use Rattle.age_core.specs.Stanza.{Stanza}
-use Rattle.age_core.specs.Reading.{Reads, Before_done, Invalid_data, Unexpected_eof, Too_much}
-use Rattle.age_core.specs.declared.plugin.PhaseError.{PhaseError}
-use Rattle.age_core.specs.declared.plugin.PhaseError.TheVariants.{NoMemory as PhaseNoMemory, ReadFault as PhaseReadFault, InvalidData as PhaseInvalidData, UnexpectedEof as PhaseUnexpectedEof, TooMuch as PhaseTooMuch}
+use Rattle.age_format.specs.Outside.{Rose}
+use Rattle.age_format.specs.Stanza.{Stanza}
+use Rattle.age_format.specs.Reading.{Reads, Before_done, Invalid_data, Unexpected_eof, Too_much}
+use Rattle.age_format.specs.declared.error.PhaseError.{PhaseError}
+use Rattle.age_format.specs.declared.error.PhaseError.TheVariants.{NoMemory as PhaseNoMemory, WriteFault as PhaseWriteFault, ReadFault as PhaseReadFault, InvalidData as PhaseInvalidData, UnexpectedEof as PhaseUnexpectedEof, TooMuch as PhaseTooMuch}
 use Rattle.kem_mail.specs.Mail.{Verdict, OpenMeaning, IsVerdict, OpensByKey}
 use Rattle.kem_mail.specs.Causes.{of_phase}
 use Rattle.kem_mail.specs.Taken.{Lost, IsTaken, IsShortBehindDone, StoppedBy}
@@ -19,6 +19,7 @@ use Rattle.kem_mail.specs.declared.error.MailError.TheVariants.{NoMemory, XofExh
 -- the reading of a text for which a phase is refused
 abbrev pub IsRefusedFor : PhaseError → List ℕ → ℕ → Type 0
 IsRefusedFor PhaseNoMemory text budget = Unit {0}
+IsRefusedFor PhaseWriteFault text budget = Unit {0}
 IsRefusedFor PhaseReadFault text budget = Unit {0}
 IsRefusedFor PhaseInvalidData text budget = Reads text budget Invalid_data
 IsRefusedFor PhaseUnexpectedEof text budget = Reads text budget Unexpected_eof

@@ -1,6 +1,6 @@
 -- What is held for a sink and handed over.
 use Rattle.std.specs.Prelude.{◌≡◌, ℕ, List, ◌++◌, Option, Result, MatchResult}
-use Rattle.age_core.specs.Outside.{Wrote, WrotePart}
+use Rattle.age_format.specs.Outside.{Wrote, WrotePart}
 
 -- the front of what was held and of this output was written, and the rest is held
 abbrev pub Hands : {W : Type 0} → (W → Option (List ℕ)) → (W → ℕ) → (W → List ℕ) → W → W → List ℕ → List ℕ → List ℕ → Type 0

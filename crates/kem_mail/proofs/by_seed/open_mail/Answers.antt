@@ -1,6 +1,6 @@
 use Rattle.std.proofs.Common.{ap}
 use Rattle.std.proofs.lemmas.Result.{err_from_is_err_and}
-use Rattle.age_core.specs.Outside.{Rose}
+use Rattle.age_format.specs.Outside.{Rose}
 use Rattle.ml_kem.specs.Parameters.{Parameters}
 use Rattle.kem_mail.proofs.Keyed.{lost_nothing, told_by_key, complete_by_key}
 use Rattle.kem_mail.proofs.by_seed.open_mail.Goals as goal

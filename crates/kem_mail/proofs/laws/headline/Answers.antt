@@ -1,6 +1,6 @@
 use Rattle.std.proofs.Common.{map}
 use Rattle.std.specs.String.{string_bytes}
-use Rattle.age_core.specs.Outside.{Rose}
+use Rattle.age_format.specs.Outside.{Rose}
 use Rattle.kem_mail.proofs.Headlines.{three_due, zero_messages, three_no_mail, complete_messages}
 use Rattle.kem_mail.proofs.laws.headline.Goals as goal
 

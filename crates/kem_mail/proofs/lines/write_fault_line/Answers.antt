@@ -1,6 +1,6 @@
 use Rattle.std.proofs.Common.{◌∷◌, [], ℕ, List, ◌++◌, subst, append_assoc}
 use Rattle.std.proofs.lemmas.Result.{err_from_is_err_and}
-use Rattle.age_core.specs.Outside.{Writes}
+use Rattle.age_format.specs.Outside.{Writes}
 use Rattle.kem_mail.specs.Lines.{spaced}
 use Rattle.kem_mail.proofs.Writes.{wrote_then, part_front, part_then, writes_last}
 use Rattle.kem_mail.proofs.lines.write_fault_line.Goals as goal

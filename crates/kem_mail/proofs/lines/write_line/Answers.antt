@@ -2,7 +2,7 @@ use Rattle.std.proofs.Common.{◌≡◌, ◌∷◌, [], ◌++◌, List, ℕ, tak
 use Rattle.std.proofs.lemmas.List.{append-nil}
 use Rattle.std.proofs.lemmas.Result.{err_from_is_err_and}
 use Rattle.hex.specs.Hex.{encode_lower}
-use Rattle.age_core.specs.Outside.{WrotePart}
+use Rattle.age_format.specs.Outside.{WrotePart}
 use Rattle.kem_mail.specs.private.Telling.{Hands}
 use Rattle.kem_mail.proofs.Writes.{digits_all, digits_more, line_split, hands_nothing, hands_part, hands_pushed, hands_then}
 use Rattle.kem_mail.proofs.lines.write_line.Goals as goal

@@ -2,7 +2,7 @@ use Rattle.std.proofs.Common.{◌≡◌, ◌∷◌, [], ◌++◌, ◌+◌, take,
 use Rattle.std.proofs.lemmas.List.{take_all}
 use Rattle.std.proofs.lemmas.Result.{err_from_is_err_and}
 use Rattle.hex.specs.Hex.{encode_lower}
-use Rattle.age_core.specs.Outside.{Writes, WrotePart}
+use Rattle.age_format.specs.Outside.{Writes, WrotePart}
 use Rattle.kem_mail.specs.Lines.{lines}
 use Rattle.kem_mail.specs.private.Telling.{Hands}
 use Rattle.kem_mail.proofs.Writes.{hands_nothing, hands_part, hands_then, lines_split, lines_more, writes_held}

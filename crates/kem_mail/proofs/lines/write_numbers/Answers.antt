@@ -1,7 +1,7 @@
 use Rattle.std.proofs.Common.{◌∷◌, ◌+◌, take, drop, get_or, sym, subst}
 use Rattle.std.specs.Prelude.{decimal}
 use Rattle.std.proofs.lemmas.Result.{err_from_is_err_and}
-use Rattle.age_core.specs.Outside.{Wrote, WrotePart}
+use Rattle.age_format.specs.Outside.{Wrote, WrotePart}
 use Rattle.kem_mail.specs.Lines.{spaced}
 use Rattle.kem_mail.proofs.Writes.{wrote_nothing, wrote_then, part_then, spaced_split, spaced_more}
 use Rattle.kem_mail.proofs.lines.write_numbers.Goals as goal

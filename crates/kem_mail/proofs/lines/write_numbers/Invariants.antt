@@ -1,5 +1,5 @@
 use Rattle.std.proofs.Common.{take}
-use Rattle.age_core.specs.Outside.{Wrote}
+use Rattle.age_format.specs.Outside.{Wrote}
 use Rattle.kem_mail.specs.Lines.{spaced}
 use Rattle.kem_mail.proofs.lines.write_numbers.Given as goal
 

@@ -1,6 +1,6 @@
 use Rattle.std.proofs.Common.{◌≡◌, ℕ, List, map, sym, ap, subst, ◌∙◌, Some, None}
 use Rattle.std.specs.Prelude.{codes}
-use Rattle.age_core.specs.Stanza.{stanza_of}
+use Rattle.age_format.specs.Stanza.{stanza_of}
 use Rattle.hpke.specs.Schedule.{suite_of}
 use Rattle.kem_mail.specs.Mail.{Opener, Verdict, bodies, open_at, opener_of}
 use Rattle.kem_mail.specs.private.Answers.{Judges}

@@ -1,7 +1,7 @@
 use Rattle.std.proofs.Common.{◌≡◌, ℕ, ◌+◌, ◌∷◌, [], ◌++◌, List, length, map, take, refl, sym, ap, ◌∙◌, arith}
 use Rattle.std.specs.Prelude.{codes}
 use Rattle.std.proofs.lemmas.List.{length_push, nil_from_length}
-use Rattle.age_core.specs.Stanza.{stanza_of}
+use Rattle.age_format.specs.Stanza.{stanza_of}
 use Rattle.kem_mail.specs.Mail.{bodies}
 use Rattle.kem_mail.proofs.Tags.{bodies_up_to-hit, bodies_up_to-miss, bodies_up_to-end}
 use Rattle.kem_mail.proofs.open.key_body.Goals as goal

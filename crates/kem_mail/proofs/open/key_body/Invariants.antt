@@ -1,6 +1,6 @@
 use Rattle.std.proofs.Common.{◌≡◌, ◌≤◌, ◌∷◌, [], length, map, take}
 use Rattle.std.specs.Prelude.{codes}
-use Rattle.age_core.specs.Stanza.{stanza_of}
+use Rattle.age_format.specs.Stanza.{stanza_of}
 use Rattle.kem_mail.specs.Mail.{bodies}
 use Rattle.kem_mail.proofs.open.key_body.Given as goal
 

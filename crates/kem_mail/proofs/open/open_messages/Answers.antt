@@ -1,7 +1,7 @@
 use Rattle.std.proofs.Common.{◌+◌, ℕ, length, drop, map, Vec, Global, inr, sym, ap, subst, ◌∙◌, arith}
 use Rattle.std.specs.Prelude.{codes, Err}
 use Rattle.std.proofs.lemmas.List.{length_push}
-use Rattle.age_core.specs.Stanza.{stanza_of}
+use Rattle.age_format.specs.Stanza.{stanza_of}
 use Rattle.kem_mail.specs.Mail.{bodies, open_at}
 use Rattle.kem_mail.proofs.Messages.{Progress, numbered, numbered_same, used-numbered, progress-start, progress-more, progress-refused, progress-end, opens-ok, opens-none, sealed_law}
 use Rattle.kem_mail.proofs.Tags.{bodies_from-hit, bodies_from-miss, bodies_from-end}

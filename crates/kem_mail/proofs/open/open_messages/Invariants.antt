@@ -1,6 +1,6 @@
 use Rattle.std.proofs.Common.{◌≡◌, ◌≤◌, length, drop, map}
 use Rattle.std.specs.Prelude.{codes}
-use Rattle.age_core.specs.Stanza.{stanza_of}
+use Rattle.age_format.specs.Stanza.{stanza_of}
 use Rattle.kem_mail.specs.Mail.{bodies, open_at}
 use Rattle.kem_mail.proofs.Messages.{Progress, numbered}
 use Rattle.kem_mail.proofs.open.open_messages.Given as goal

@@ -1,9 +1,9 @@
 use Rattle.std.proofs.Common.{ℕ, List, map, ap, None, Err, Vec, Global}
 use Rattle.std.proofs.lemmas.Result.{err_from_is_err_and}
-use Rattle.age_core.specs.Outside.{Rose}
-use Rattle.age_core.specs.Stanza.{stanza_of}
-use Rattle.age_core.specs.Reading.{Before_done}
-use Rattle.age_core.specs.declared.format.Stanza.{Stanza as HeldStanza}
+use Rattle.age_format.specs.Outside.{Rose}
+use Rattle.age_format.specs.Stanza.{stanza_of}
+use Rattle.age_format.specs.Reading.{Before_done}
+use Rattle.age_format.specs.declared.format.Stanza.{Stanza as HeldStanza}
 use Rattle.hpke.specs.Schedule.{suite_of}
 use Rattle.kem_mail.specs.Mail.{Opener, opener_of, judged}
 use Rattle.kem_mail.specs.private.Answers.{Judges}

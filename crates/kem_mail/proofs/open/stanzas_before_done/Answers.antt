@@ -2,12 +2,12 @@ use Rattle.std.proofs.Common.{◌≡◌, ℕ, ◌∷◌, ◌++◌, [], map, Err,
 use Rattle.std.specs.String.{string_bytes}
 use Rattle.std.proofs.lemmas.List.{map_push}
 use Rattle.std.proofs.lemmas.Result.{err_from_is_err_and}
-use Rattle.age_core.specs.Outside.{Rose}
-use Rattle.age_core.specs.Stanza.{stanza_of}
-use Rattle.age_core.specs.declared.plugin.PhaseError.TheVariants.{ReadFault}
-use Rattle.age_core.specs.declared.format.Stanza.{Stanza as HeldStanza}
-use Rattle.age_core.proofs.Commands.{not_done, is_done}
-use Rattle.age_core.proofs.Receipts.{receives_less}
+use Rattle.age_format.specs.Outside.{Rose}
+use Rattle.age_format.specs.Stanza.{stanza_of}
+use Rattle.age_format.specs.declared.error.PhaseError.TheVariants.{ReadFault}
+use Rattle.age_format.specs.declared.format.Stanza.{Stanza as HeldStanza}
+use Rattle.age_format.proofs.Dones.{not_done, is_done}
+use Rattle.age_format.proofs.Receipts.{receives_less}
 use Rattle.kem_mail.specs.Causes.{of_phase}
 use Rattle.kem_mail.proofs.Takings.{Given, few_behind, given_none, given_more, read_refused, taken_refused, phase_ended, phase_fault, left_ended, read_done, taken_done, read_unheld, taken_unheld}
 use Rattle.kem_mail.proofs.open.stanzas_before_done.Goals as goal

@@ -1,5 +1,5 @@
 use Rattle.std.proofs.Common.{◌≡◌, ◌+◌, length, map}
-use Rattle.age_core.specs.Stanza.{stanza_of}
+use Rattle.age_format.specs.Stanza.{stanza_of}
 use Rattle.kem_mail.proofs.Takings.{Given}
 use Rattle.kem_mail.proofs.open.stanzas_before_done.Given as goal
 

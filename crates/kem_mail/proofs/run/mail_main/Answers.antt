@@ -1,6 +1,6 @@
 use Rattle.std.proofs.Common.{inl, inr, map, refl, sym, subst, ◌∙◌}
 use Rattle.std.specs.String.{string_bytes}
-use Rattle.age_core.specs.Outside.{Rose}
+use Rattle.age_format.specs.Outside.{Rose}
 use Rattle.kem_mail.specs.Due.{Outcome, outcome_output, outcome_status}
 use Rattle.kem_mail.specs.Taken.{Lost, Takes}
 use Rattle.kem_mail.specs.Run.{CameTo, IsTold}

@@ -2,14 +2,15 @@ use Rattle.std.proofs.Common.{◌≡◌, Some, [], ◌∷◌, ◌++◌, map, ref
 use Rattle.std.specs.Option.{option_copied}
 use Rattle.std.specs.String.{string_bytes}
 use Rattle.std.proofs.lemmas.List.{append-nil, map_push}
-use Rattle.age_core.specs.declared.plugin.PhaseError.TheVariants.{ReadFault}
-use Rattle.age_core.specs.Stanza.{stanza_of}
-use Rattle.age_core.specs.Reading.{NoneDone}
-use Rattle.age_core.specs.Receiving.{Receives}
+use Rattle.age_format.specs.declared.error.PhaseError.TheVariants.{ReadFault}
+use Rattle.age_format.specs.Stanza.{stanza_of}
+use Rattle.age_format.specs.Reading.{NoneDone}
+use Rattle.age_format.specs.Receiving.{Receives}
 use Rattle.age_core.specs.Connecting.{source_of, held_by}
 use Rattle.age_core.specs.Phases.{Commands, for_a, for_b, for_c, for_d, without_command}
-use Rattle.age_core.proofs.Receipts.{GaveNoDone, receives_none, receives_both, receives_less, little_more, held_more, held_unread}
-use Rattle.age_core.proofs.Commands.{for_a-append, for_b-append, for_c-append, for_d-append, if_asked, may_next, on_err, err_as, same_err, none_done-push, not_done, is_done}
+use Rattle.age_format.proofs.Receipts.{GaveNoDone, receives_none, receives_both, receives_less, little_more, held_more, held_unread}
+use Rattle.age_format.proofs.Dones.{none_done-push, not_done, is_done}
+use Rattle.age_core.proofs.Commands.{for_a-append, for_b-append, for_c-append, for_d-append, if_asked, may_next, on_err, err_as, same_err}
 use Rattle.age_core.proofs.plugin.connection.Connection.unidir_receive.Goals as goal
 
 pub loop-running-init : goal.loop-running-init

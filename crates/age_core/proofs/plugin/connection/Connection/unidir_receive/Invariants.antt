@@ -1,12 +1,12 @@
 use Rattle.std.proofs.Common.{◌≡◌, ◌+◌, List, length, map}
 use Rattle.std.specs.Option.{option_copied}
-use Rattle.age_core.specs.declared.format.Stanza.{Stanza}
-use Rattle.age_core.specs.Stanza.{stanza_of}
-use Rattle.age_core.specs.Reading.{NoneDone}
-use Rattle.age_core.specs.Receiving.{Receives}
+use Rattle.age_format.specs.declared.format.Stanza.{Stanza}
+use Rattle.age_format.specs.Stanza.{stanza_of}
+use Rattle.age_format.specs.Reading.{NoneDone}
+use Rattle.age_format.specs.Receiving.{Receives}
 use Rattle.age_core.specs.Connecting.{source_of, sink_of, held_by}
 use Rattle.age_core.specs.Phases.{Commands, for_a, for_b, for_c, for_d, Ran}
-use Rattle.age_core.proofs.Receipts.{Little, StillHeld}
+use Rattle.age_format.proofs.Receipts.{Little, StillHeld}
 use Rattle.age_core.proofs.plugin.connection.Connection.unidir_receive.Given as goal
 
 -- the stanzas so far went to the commands, and none of them was a `done`

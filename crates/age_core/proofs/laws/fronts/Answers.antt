@@ -1,6 +1,0 @@
-use Rattle.age_core.proofs.Fronts.{front_by_cases}
-use Rattle.age_core.proofs.Completions.{cases_front}
-use Rattle.age_core.proofs.laws.fronts.Goals as goal
-
-pub returns : goal.returns
-returns c text = (front_by_cases text, cases_front text)

@@ -1,5 +1,0 @@
-use Rattle.age_core.proofs.Readings.{some_reading}
-use Rattle.age_core.proofs.laws.some_reading.Goals as goal
-
-pub returns : goal.returns
-returns c = some_reading

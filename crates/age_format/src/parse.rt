@@ -1,0 +1,140 @@
+//! One stanza at the front of a text: its header line, and the lines of its body.
+
+ghost use Rattle.std.specs.Prelude.{◌≡◌, ◌<◌, ◌≤◌, ◌↔◌, ℕ, None, Some, List, [], length, map, take, IfOk, IfSome, OnOk, MatchBool, ◌++◌};
+ghost use Rattle.std.specs.Option.{option_map};
+ghost use Rattle.std.specs.String.{string_bytes};
+ghost use Rattle.base64.specs.GeneralPurpose.{decoded_of};
+ghost use Rattle.age_format.specs.Stanza.{IsBytes, stanza_of};
+ghost use Rattle.age_format.specs.private.Parse.{IsLineEngine, is_visible, words_from, lines_from, stanza_read};
+
+use crate::format::Stanza;
+use base64::DecodeAllocError;
+use base64::alphabet::Alphabet;
+use base64::engine::general_purpose::{GeneralPurpose, NO_PAD};
+use std::alloc::{AllocError, Global};
+use std::mem;
+
+/// The characters for 0 to 63 (RFC 4648, section 4).
+const ALPHABET: &str = "ABCDEFGHIJKLMNOPQRSTUVWXYZabcdefghijklmnopqrstuvwxyz0123456789+/";
+
+/// How many characters a full line of a body has.
+pub(crate) const LINE_LEN: usize = 64;
+
+/// What each stanza begins with.
+const PREFIX: &[u8; 3] = b"-> ";
+
+/// The engine of a body's lines: without padding, and strict.
+pub(crate) fn engine() -> GeneralPurpose
+    ensures { IsLineEngine result }
+{
+    let Ok(alphabet) = Alphabet::new(ALPHABET) else {
+        unreachable!();
+    };
+    GeneralPurpose::new(&alphabet, NO_PAD)
+}
+
+/// Whether a tag or an argument may hold the byte.
+pub(crate) fn is_visible(byte: u8) -> bool
+    ensures { result ≡ is_visible byte }
+{
+    33 <= byte && byte <= 126
+}
+
+/// The words of a header line, which single spaces separate, and what follows the line.
+fn words_at(alloc: Global, text: &[u8]) -> Result<Option<(Vec<String>, &[u8])>, AllocError>
+    ensures { IfOk result (λ found.
+        option_map (λ x. (map string_bytes x.0.items, x.1.now)) found ≡ words_from [] [] text.now) }
+{
+    let mut words = Vec::new(alloc);
+    let mut word = String::new(alloc);
+    for (i, &byte) in text.iter().enumerate() {
+        if is_visible(byte) {
+            word.push(char::from(byte))?;
+            continue;
+        }
+        if word.is_empty() {
+            return Ok(None);
+        }
+        words.push(mem::replace(&mut word, String::new(alloc)))?;
+        if byte == b'\n' {
+            return Ok(Some((words, &text[i + 1..])));
+        }
+        if byte != b' ' {
+            return Ok(None);
+        }
+    }
+    Ok(None)
+}
+
+/// Appends the bytes that a line spells to the body, and answers whether it spells any.
+fn push_line(engine: &GeneralPurpose, line: &[u8], body: &mut Vec<u8>) -> Result<bool, AllocError>
+    requires { IsLineEngine engine.now }
+    ensures value { IfOk result (λ spells. MatchBool spells
+        ((bytes : List ℕ) × (decoded_of engine.now line.now ≡ Some bytes) × (body.new.items ≡ body.old.items ++ bytes))
+        (decoded_of engine.now line.now ≡ None)) }
+    ensures bytes { OnOk result (IsBytes body.new.items) }
+{
+    match engine.decode_vec(line, body) {
+        Ok(()) => Ok(true),
+        Err(DecodeAllocError::DecodeError(_)) => Ok(false),
+        Err(DecodeAllocError::OutOfMemory) => Err(AllocError),
+    }
+}
+
+/// The body that the lines at the front of the text spell, and what follows its last line.
+fn body_at<'a>(
+    alloc: Global,
+    engine: &GeneralPurpose,
+    text: &'a [u8],
+) -> Result<Option<(Vec<u8>, &'a [u8])>, AllocError>
+    requires { IsLineEngine engine.now }
+    ensures value { IfOk result (λ found. option_map (λ x. (x.0.items, x.1.now)) found ≡ lines_from engine.now [] [] text.now) }
+    ensures bytes { IfOk result (λ found. IfSome found (λ x. IsBytes x.0.items)) }
+{
+    let mut body = Vec::new(alloc);
+    let mut start = 0;
+    for (i, &byte) in text.iter().enumerate() {
+        let line = &text[start..i];
+        if byte != b'\n' {
+            if line.len() == LINE_LEN {
+                return Ok(None);
+            }
+            continue;
+        }
+        if !push_line(engine, line, &mut body)? {
+            return Ok(None);
+        }
+        if line.len() < LINE_LEN {
+            return Ok(Some((body, &text[i + 1..])));
+        }
+        start = i + 1;
+    }
+    Ok(None)
+}
+
+/// The stanza whose spelling begins the text, and what follows it.
+pub(crate) fn stanza_at<'a>(
+    alloc: Global,
+    engine: &GeneralPurpose,
+    text: &'a [u8],
+) -> Result<Option<(Stanza, &'a [u8])>, AllocError>
+    requires { IsLineEngine engine.now }
+    ensures value { IfOk result (λ found. option_map (λ x. (stanza_of x.0, x.1.now)) found ≡ stanza_read engine.now text.now) }
+    ensures bytes { IfOk result (λ found. IfSome found (λ x. IsBytes x.0.body.items)) }
+{
+    let Some(text) = text.strip_prefix(PREFIX) else {
+        return Ok(None);
+    };
+    let Some((mut words, text)) = words_at(alloc, text)? else {
+        return Ok(None);
+    };
+    if words.is_empty() {
+        return Ok(None);
+    }
+    let Some((body, rest)) = body_at(alloc, engine, text)? else {
+        return Ok(None);
+    };
+    let tag = words.remove(0);
+    let args = words;
+    Ok(Some((Stanza { tag, args, body }, rest)))
+}
