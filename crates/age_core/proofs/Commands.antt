@@ -1,6 +1,6 @@
 -- One answer more of a command, and one stanza more of a phase.
 use Rattle.std.proofs.Common.{◌≡◌, ◌≢◌, ℕ, Bool, true, false, not, List, [], ◌∷◌, ◌++◌, filter, Option, Some, None, Result, Ok, Err, refl, sym, ap, subst, ◌∙◌}
-use Rattle.std.specs.Prelude.{Vec, MatchOption, OnErr, IsErrAnd}
+use Rattle.std.specs.Prelude.{Vec, MatchOption}
 use Rattle.std.specs.List.{AllByRecursion}
 use Rattle.std.proofs.lemmas.List.Elements.{filter-append}
 use Rattle.std.proofs.lemmas.List.{append-nil}
@@ -201,16 +201,3 @@ pub if_asked : {F A E Z : Type 0} (step : F → Stanza → Result A E → F → 
     → MatchOption command (answer ≡ None) (λ _. answer ≡ Some outcome) → Ran step f ss outcome last → AnswersIfAsked step f command ss answer
 if_asked step f None ss outcome last answer h ran = h
 if_asked step f (Some tag) ss outcome last answer h ran = (outcome, h, (last, ran))
-
--- whatever a refusal is
-pub on_err : {A E : Type 0} {P : Type 0} (r : Result A E) → P → OnErr r P
-on_err (Ok x) p = tt
-on_err (Err e) p = p
-
--- a refusal that is passed on
-pub err_as : {A E : Type 0} (r : Result A E) (e f : E) → IsErrAnd r (λ x. x ≡ e) → e ≡ f → r ≡ Err f
-err_as (Ok x) e f h same = absurd h
-err_as (Err x) e f h same = cc
-
-pub same_err : {A E : Type 0} (e f : E) → ◌≡◌ {A = Result A E} (Err e) (Err f) → e ≡ f
-same_err e f h = cc

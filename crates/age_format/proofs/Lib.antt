@@ -10,3 +10,4 @@ pub mod Completions
 pub mod Receipts
 pub mod Looks
 pub mod Dones
+pub mod Refusals

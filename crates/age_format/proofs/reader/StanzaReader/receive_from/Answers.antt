@@ -2,7 +2,7 @@ use Rattle.std.proofs.Common.{◌≡◌, ℕ, List, [], ◌++◌, refl, ap, sym,
 use Rattle.age_format.specs.declared.error.PhaseError.TheVariants.{ReadFault}
 use Rattle.age_format.specs.Stanza.{IsFront, stanza_of}
 use Rattle.age_format.specs.Receiving.{Held}
-use Rattle.age_format.proofs.Commands.{on_err, err_as, same_err}
+use Rattle.age_format.proofs.Refusals.{on_err, err_as, same_err}
 use Rattle.age_format.proofs.Receipts.{FewBehind, receives_none, receives_both, receives_read, receives_held, behind_last, little_behind}
 use Rattle.age_format.proofs.reader.StanzaReader.receive_from.Goals as goal
 

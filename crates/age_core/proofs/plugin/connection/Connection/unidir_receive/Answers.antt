@@ -10,7 +10,8 @@ use Rattle.age_core.specs.Connecting.{source_of, held_by}
 use Rattle.age_core.specs.Phases.{Commands, for_a, for_b, for_c, for_d, without_command}
 use Rattle.age_format.proofs.Receipts.{GaveNoDone, receives_none, receives_both, receives_less, little_more, held_more, held_unread}
 use Rattle.age_format.proofs.Dones.{none_done-push, not_done, is_done}
-use Rattle.age_core.proofs.Commands.{for_a-append, for_b-append, for_c-append, for_d-append, if_asked, may_next, on_err, err_as, same_err}
+use Rattle.age_format.proofs.Refusals.{on_err, err_as, same_err}
+use Rattle.age_core.proofs.Commands.{for_a-append, for_b-append, for_c-append, for_d-append, if_asked, may_next}
 use Rattle.age_core.proofs.plugin.connection.Connection.unidir_receive.Goals as goal
 
 pub loop-running-init : goal.loop-running-init
