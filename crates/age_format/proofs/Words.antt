@@ -1,10 +1,12 @@
 -- The words of a header line: what is read spells them, and what spells them is read.
-use Rattle.std.proofs.Common.{◌≡◌, ◌≢◌, ℕ, true, cond, eqb, leb, List, [], ◌∷◌, ◌++◌, length, Some, None, refl, sym, ap, ◌∙◌, append_assoc, inl, inr}
+use Rattle.std.proofs.Common.{◌≡◌, ◌≢◌, ℕ, zero, suc, ◌+◌, ◌<◌, ◌≤◌, true, false, cond, eqb, leb, List, [], ◌∷◌, ◌++◌, length, get_or, take, drop, Some, None, refl, sym, ap, ◌∙◌, append_assoc, inl, inr, arith, IsUtf8, IsAscii}
 use Rattle.std.specs.List.{flat_map, AllByRecursion}
-use Rattle.std.proofs.lemmas.Bool.{leb-true, le-leb, and_parts, and_from, eqb-true}
-use Rattle.std.proofs.lemmas.List.{append-nil}
+use Rattle.std.proofs.lemmas.Bool.{leb-true, le-leb, and_parts, and_from, eqb-true, ne_eqb, cases_Bool}
+use Rattle.std.proofs.lemmas.List.{append-nil, take_more, drop_more}
 use Rattle.std.proofs.lemmas.List.Concat.{flat_map-append}
+use Rattle.std.proofs.lemmas.Str.{IsUtf8-from_ascii}
 use Rattle.age_format.specs.Stanza.{IsVisible, IsArbitraryString}
+use Rattle.age_format.specs.Strings.{BeginsHidden, BeginsWithString}
 use Rattle.age_format.specs.private.Parse.{is_visible, words_from}
 use Rattle.std.proofs.lemmas.Option.{none-some}
 use Rattle.age_format.proofs.Cases.{chosen, length_not_zero, not_nil, some_parts}
@@ -115,3 +117,68 @@ words_complete (arg ∷ args) words tag rest h all =
     let regrouped : flat_map behind_space (arg ∷ args) ++ 10 ∷ rest ≡ 32 ∷ (arg ++ (flat_map behind_space args ++ 10 ∷ rest)) = ap (λ (t : List ℕ). 32 ∷ t) (append_assoc arg (flat_map behind_space args) (10 ∷ rest)) in
     let more = words_complete args (words ++ tag ∷ []) arg rest all.0 all.1 in
     rw regrouped (words_run tag [] words _ h.1 ∙ (closes_word tag words _ h.0 ∙ (more ∙ ap (λ (ws : List (List ℕ)). Some (ws, rest)) (append_assoc words (tag ∷ []) (arg ∷ args)))))
+
+-- ---- the longest run at the front of a text
+
+pub hidden_fails : (b : ℕ) → (IsVisible b → ⊥) → is_visible b ≡ false
+hidden_fails b h =
+    elim (cases_Bool (is_visible b)) [
+      | inl shown ↦ absurd (h (passes_visible b shown))
+      | inr hidden ↦ hidden
+    ]
+
+-- one byte more of a run, and the byte that ends it
+pub visible_more : (text : List ℕ) (i : ℕ) → i < length text → AllByRecursion IsVisible (take i text) → is_visible (get_or text i 0) ≡ true → AllByRecursion IsVisible (take (i + 1) text)
+visible_more text i within run visible = rw (take_more text i 0 within) (All-push IsVisible (take i text) (get_or text i 0) run (passes_visible _ visible))
+
+pub hidden_here : (text : List ℕ) (i : ℕ) → i < length text → is_visible (get_or text i 0) ≡ false → BeginsHidden (drop i text)
+hidden_here text i within hidden = rw (drop_more text i 0 within) (λ v. let both : true ≡ false = sym (visible_passes _ v) ∙ hidden in absurd cc)
+
+at_space_byte : (word : List ℕ) (words : List (List ℕ)) (rest : List ℕ) → word ≢ [] → get_or rest 0 0 ≡ 32 → words_from word words rest ≡ words_from [] (words ++ word ∷ []) (drop 1 rest)
+at_space_byte word words [] full is = absurd (omega arith)
+at_space_byte word words (b ∷ bs) full is = let same : b ≡ 32 = is in rw same (closes_word word words bs full)
+
+at_feed_byte : (word : List ℕ) (words : List (List ℕ)) (rest : List ℕ) → word ≢ [] → get_or rest 0 0 ≡ 10 → words_from word words rest ≡ Some (words ++ word ∷ [], drop 1 rest)
+at_feed_byte word words [] full is = absurd (omega arith)
+at_feed_byte word words (b ∷ bs) full is = let same : b ≡ 10 = is in rw same (ends_word word words bs full)
+
+at_other_byte : (word : List ℕ) (words : List (List ℕ)) (rest : List ℕ) → word ≢ [] → BeginsHidden rest → get_or rest 0 0 ≢ 32 → get_or rest 0 0 ≢ 10 → words_from word words rest ≡ None
+unfolding words_from
+at_other_byte word words [] full hidden no_space no_feed = absurd hidden
+at_other_byte word words (b ∷ bs) full hidden no_space no_feed = rw (hidden_fails b hidden, length_not_zero word full, ne_eqb b 32 no_space, ne_eqb b 10 no_feed) refl
+
+nothing_left : (word : List ℕ) (words : List (List ℕ)) → words_from word words [] ≡ None
+unfolding words_from
+nothing_left word words = refl
+
+-- what a string at the front comes to, by the byte behind it
+module _ (text string rest : List ℕ) (words : List (List ℕ)) (begins : BeginsWithString text string rest) where
+  string_behind : words_from [] words text ≡ words_from string words rest
+  string_behind = ap (words_from [] words) begins.whole ∙ words_run string [] words rest begins.is_string.1
+
+  pub string_space : get_or rest 0 0 ≡ 32 → words_from [] words text ≡ words_from [] (words ++ string ∷ []) (drop 1 rest)
+  string_space is = string_behind ∙ at_space_byte string words rest begins.is_string.0 is
+
+  pub string_feed : get_or rest 0 0 ≡ 10 → words_from [] words text ≡ Some (words ++ string ∷ [], drop 1 rest)
+  string_feed is = string_behind ∙ at_feed_byte string words rest begins.is_string.0 is
+
+  pub string_other : get_or rest 0 0 ≢ 32 → get_or rest 0 0 ≢ 10 → words_from [] words text ≡ None
+  string_other no_space no_feed = string_behind ∙ at_other_byte string words rest begins.is_string.0 begins.longest no_space no_feed
+
+-- where no string stands at the front, or nothing behind it
+pub no_end : (text : List ℕ) (words : List (List ℕ)) → AllByRecursion IsVisible text → words_from [] words text ≡ None
+no_end text words run = ap (words_from [] words) (sym (append-nil text)) ∙ (words_run text [] words [] run ∙ nothing_left text words)
+
+pub no_string : (text : List ℕ) (words : List (List ℕ)) → BeginsHidden text → words_from [] words text ≡ None
+unfolding words_from
+no_string [] words h = absurd h
+no_string (b ∷ bs) words h = rw (hidden_fails b h) refl
+
+-- visible bytes are text
+visible_ascii : (bs : List ℕ) → AllByRecursion IsVisible bs → IsAscii bs
+visible_ascii [] run i = omega arith
+visible_ascii (b ∷ bs) run zero = let v : b ≤ 126 = run.0.1 in omega arith
+visible_ascii (b ∷ bs) run (suc i) = visible_ascii bs run.1 i
+
+pub visible_utf8 : (bs : List ℕ) → AllByRecursion IsVisible bs → IsUtf8 bs
+visible_utf8 bs run = IsUtf8-from_ascii bs (visible_ascii bs run)

@@ -4,6 +4,8 @@ pub mod Outside
 pub mod Adapters
 -- one stanza and its one spelling
 pub mod Stanza
+-- the longest run of visible bytes
+pub mod Strings
 -- proper prefixes of spellings
 pub mod Front
 -- the stanzas before the first `done`, within a budget

@@ -1,8 +1,14 @@
-//! Stanzas.
+//! Stanzas, the strings of their header lines, and the strict reader.
 
 ghost use Rattle.std.specs.Prelude.{◌≡◌};
 ghost use Rattle.std.specs.Str.{bytes_eq};
 ghost use Rattle.std.specs.String.{string_bytes};
+
+mod borrowed;
+pub mod read;
+
+pub use borrowed::AgeStanza;
+pub use read::{ReadRefused, is_arbitrary_string};
 
 /// A stanza that owns its parts.
 ///

@@ -7,12 +7,12 @@ ghost use Rattle.base64.specs.GeneralPurpose.{decoded_of};
 ghost use Rattle.age_format.specs.Stanza.{IsBytes, stanza_of};
 ghost use Rattle.age_format.specs.private.Parse.{IsLineEngine, is_visible, words_from, lines_from, stanza_read};
 
-use crate::format::Stanza;
+use crate::format::AgeStanza;
+use crate::format::read::arbitrary_string;
 use base64::DecodeAllocError;
 use base64::alphabet::Alphabet;
 use base64::engine::general_purpose::{GeneralPurpose, NO_PAD};
 use std::alloc::{AllocError, Global};
-use std::mem;
 
 /// The characters for 0 to 63 (RFC 4648, section 4).
 const ALPHABET: &str = "ABCDEFGHIJKLMNOPQRSTUVWXYZabcdefghijklmnopqrstuvwxyz0123456789+/";
@@ -41,23 +41,21 @@ pub(crate) fn is_visible(byte: u8) -> bool
 }
 
 /// The words of a header line, which single spaces separate, and what follows the line.
-fn words_at(alloc: Global, text: &[u8]) -> Result<Option<(Vec<String>, &[u8])>, AllocError>
+fn words_at<'a>(
+    alloc: Global,
+    text: &'a [u8],
+) -> Result<Option<(Vec<&'a str>, &'a [u8])>, AllocError>
     ensures { IfOk result (λ found.
-        option_map (λ x. (map string_bytes x.0.items, x.1.now)) found ≡ words_from [] [] text.now) }
+        option_map (λ x. (map (λ word. word.now) x.0.items, x.1.now)) found ≡ words_from [] [] text.now) }
 {
     let mut words = Vec::new(alloc);
-    let mut word = String::new(alloc);
-    for (i, &byte) in text.iter().enumerate() {
-        if is_visible(byte) {
-            word.push(char::from(byte))?;
-            continue;
-        }
-        if word.is_empty() {
-            return Ok(None);
-        }
-        words.push(mem::replace(&mut word, String::new(alloc)))?;
+    let mut rest = text;
+    while let Ok((behind, word)) = arbitrary_string(rest) {
+        words.push(word)?;
+        rest = &behind[1..];
+        let byte = behind[0];
         if byte == b'\n' {
-            return Ok(Some((words, &text[i + 1..])));
+            return Ok(Some((words, rest)));
         }
         if byte != b' ' {
             return Ok(None);
@@ -117,10 +115,10 @@ pub(crate) fn stanza_at<'a>(
     alloc: Global,
     engine: &GeneralPurpose,
     text: &'a [u8],
-) -> Result<Option<(Stanza, &'a [u8])>, AllocError>
+) -> Result<Option<(AgeStanza<'a>, &'a [u8])>, AllocError>
     requires { IsLineEngine engine.now }
-    ensures value { IfOk result (λ found. option_map (λ x. (stanza_of x.0, x.1.now)) found ≡ stanza_read engine.now text.now) }
-    ensures bytes { IfOk result (λ found. IfSome found (λ x. IsBytes x.0.body.items)) }
+    ensures value { IfOk result (λ found. option_map (λ x. (x.0, x.1.now)) found ≡ stanza_read engine.now text.now) }
+    ensures bytes { IfOk result (λ found. IfSome found (λ x. IsBytes x.0.body)) }
 {
     let Some(text) = text.strip_prefix(PREFIX) else {
         return Ok(None);
@@ -135,6 +133,5 @@ pub(crate) fn stanza_at<'a>(
         return Ok(None);
     };
     let tag = words.remove(0);
-    let args = words;
-    Ok(Some((Stanza { tag, args, body }, rest)))
+    Ok(Some((AgeStanza::new(tag, words, body), rest)))
 }

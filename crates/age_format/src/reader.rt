@@ -93,9 +93,10 @@ impl StanzaReader {
             Stop::Broken => return Ok(Look::Malformed),
             Stop::Whole => {}
         }
-        let Some((stanza, rest)) = stanza_at(self.alloc, &self.engine, held)? else {
+        let Some((read, rest)) = stanza_at(self.alloc, &self.engine, held)? else {
             return Ok(Look::Malformed);
         };
+        let stanza = read.to_stanza(self.alloc)?;
         self.given = self.buffer.len() - rest.len();
         self.scan = Scan {
             seen: 0,

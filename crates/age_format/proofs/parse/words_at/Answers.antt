@@ -1,56 +1,44 @@
-use Rattle.std.proofs.Common.{◌≡◌, ℕ, ◌+◌, ◌-◌, ◌++◌, ◌∷◌, [], List, length, map, get_or, drop, sym, ap, ◌∙◌, arith, false, true, eqb}
-use Rattle.std.specs.String.{string_bytes}
+use Rattle.std.proofs.Common.{◌≡◌, ℕ, ◌+◌, ◌-◌, ◌++◌, ◌∷◌, [], List, length, map, drop, None, Err, refl, sym, ap, ◌∙◌, arith}
+use Rattle.std.specs.List.{AllByRecursion}
 use Rattle.std.proofs.lemmas.List.{map_push, take_all, length-drop}
-use Rattle.age_format.specs.private.Parse.{words_from, is_visible}
-use Rattle.age_format.proofs.Words.{passes_visible}
-use Rattle.age_format.proofs.Steps.{words_visible, words_empty, words_space, words_feed, words_other, words_out}
+use Rattle.age_format.specs.Stanza.{IsVisible}
+use Rattle.age_format.specs.Strings.{BeginsHidden}
+use Rattle.age_format.specs.private.Parse.{words_from}
+use Rattle.age_format.specs.declared.format.read.ReadRefused.{ReadRefused}
+use Rattle.age_format.specs.declared.format.read.ReadRefused.TheVariants.{Incomplete, Error, NoMemory}
+use Rattle.age_format.proofs.Words.{string_space, string_feed, string_other, no_end, no_string}
 use Rattle.age_format.proofs.parse.words_at.Goals as goal
 
-pub loop-i-preserved-then-is_visible : goal.loop-i-preserved-then-is_visible
-loop-i-preserved-then-is_visible c =
-    let text = c.args.text.now in
-    let byte : ℕ = get_or text c.loop-i.i 0 in
-    let visible : is_visible byte ≡ true = sym c.is_visible.ensures ∙ c.if-is_visible.true in
-    let bounds = passes_visible byte visible in
-    let is : c.from.result ≡ byte = c.from.ensures in
-    let one = c.in_ok-push.ensures.ascii (omega (arith, bounds.1, is)) in
-    let word : string_bytes c.push.new.self ≡ string_bytes c.loop-i.word ++ byte ∷ [] = c.in_ok-push.ensures.bytes ∙ ap (λ (b : List ℕ). string_bytes c.loop-i.word ++ b) (one ∙ ap (λ (b : ℕ). b ∷ []) c.from.ensures) in
-    let step = words_visible text c.loop-i.i (string_bytes c.loop-i.word) (map string_bytes c.loop-i.words.items) (omega arith) visible in
-    ap (λ (w : List ℕ). words_from w (map string_bytes c.loop-i.words.items) (drop (c.loop-i.i + 1) text)) word ∙ (sym step ∙ c.loop-i.invariant)
-
--- the word so far is empty, or not, as its length says
-empty_word : (n m : ℕ) → n ≡ m → eqb n 0 ≡ true → eqb m 0 ≡ true
-empty_word n m e t = ap (λ k. eqb k 0) (sym e) ∙ t
-
-full_word : (n m : ℕ) → n ≡ m → eqb n 0 ≡ false → eqb m 0 ≡ false
-full_word n m e t = ap (λ k. eqb k 0) (sym e) ∙ t
-
-pub returns-then-is_empty : goal.returns-then-is_empty
-returns-then-is_empty c =
-    let empty = empty_word _ _ c.loop-i.word.bytes.ok.0 (sym c.is_empty.ensures ∙ c.if-is_empty.true) in
-    sym (words_empty c.args.text.now c.loop-i.i (string_bytes c.loop-i.word) (map string_bytes c.loop-i.words.items) (omega arith) (sym c.is_visible.ensures ∙ c.if-is_visible.false) empty) ∙ c.loop-i.invariant
-
-pub returns : goal.returns
-returns c = sym (words_out c.args.text.now c.loop-i.i (string_bytes c.loop-i.word) (map string_bytes c.loop-i.words.items) (omega arith)) ∙ c.loop-i.invariant
+pub loop-behind-preserved : goal.loop-behind-preserved
+loop-behind-preserved c =
+    let behind = c.in-Ok.behind.now in
+    let words = map (λ word. word.now) c.loop-behind.words.items in
+    let step = string_space c.loop-behind.rest.now c.in-Ok.word.now behind words c.in-Ok.ensures.read c.if-byte-ne32.false in
+    let more : map (λ word. word.now) c.push.new.self.items ≡ words ++ c.in-Ok.word.now ∷ [] = rw c.in_ok-push.ensures.items (map_push (λ word. word.now) c.loop-behind.words.items c.in-Ok.word) in
+    rw (more, take_all (length behind - 1) (drop 1 behind) (omega (arith, length-drop 1 behind))) (sym step ∙ c.loop-behind.invariant)
 
 pub returns-then-byte-eq10 : goal.returns-then-byte-eq10
 returns-then-byte-eq10 c =
-    let text = c.args.text.now in
-    let full = full_word _ _ c.loop-i.word.bytes.ok.0 (sym c.is_empty.ensures ∙ c.if-is_empty.false) in
-    let step = words_feed text c.loop-i.i (string_bytes c.loop-i.word) (map string_bytes c.loop-i.words.items) (omega arith) (sym c.is_visible.ensures ∙ c.if-is_visible.false) full c.if-byte-eq10.true in
-    let words : map string_bytes c.push-in-loop-i.new.self.items ≡ map string_bytes c.loop-i.words.items ++ string_bytes c.loop-i.word ∷ [] = rw (c.in_ok-push-2.ensures.items, c.replace.ensures.value) (map_push string_bytes c.loop-i.words.items c.loop-i.word) in
-    rw (words, take_all (length text - (c.loop-i.i + 1)) (drop (c.loop-i.i + 1) text) (omega (arith, length-drop (c.loop-i.i + 1) text))) (sym step ∙ c.loop-i.invariant)
+    let behind = c.in-Ok.behind.now in
+    let words = map (λ word. word.now) c.loop-behind.words.items in
+    let step = string_feed c.loop-behind.rest.now c.in-Ok.word.now behind words c.in-Ok.ensures.read c.if-byte-eq10.true in
+    let more : map (λ word. word.now) c.push.new.self.items ≡ words ++ c.in-Ok.word.now ∷ [] = rw c.in_ok-push.ensures.items (map_push (λ word. word.now) c.loop-behind.words.items c.in-Ok.word) in
+    rw (more, take_all (length behind - 1) (drop 1 behind) (omega (arith, length-drop 1 behind))) (sym step ∙ c.loop-behind.invariant)
 
 pub returns-then-byte-ne32 : goal.returns-then-byte-ne32
 returns-then-byte-ne32 c =
-    let full = full_word _ _ c.loop-i.word.bytes.ok.0 (sym c.is_empty.ensures ∙ c.if-is_empty.false) in
-    sym (words_other c.args.text.now c.loop-i.i (string_bytes c.loop-i.word) (map string_bytes c.loop-i.words.items) (omega arith) (sym c.is_visible.ensures ∙ c.if-is_visible.false) full c.if-byte-ne32.true c.if-byte-eq10.false) ∙ c.loop-i.invariant
+    let words = map (λ word. word.now) c.loop-behind.words.items in
+    sym (string_other c.loop-behind.rest.now c.in-Ok.word.now c.in-Ok.behind.now words c.in-Ok.ensures.read c.if-byte-ne32.true c.if-byte-eq10.false) ∙ c.loop-behind.invariant
 
-pub loop-i-preserved : goal.loop-i-preserved
-loop-i-preserved c =
-    let text = c.args.text.now in
-    let full = full_word _ _ c.loop-i.word.bytes.ok.0 (sym c.is_empty.ensures ∙ c.if-is_empty.false) in
-    let step = words_space text c.loop-i.i (string_bytes c.loop-i.word) (map string_bytes c.loop-i.words.items) (omega arith) (sym c.is_visible.ensures ∙ c.if-is_visible.false) full c.if-byte-ne32.false in
-    let words : map string_bytes c.push-in-loop-i.new.self.items ≡ map string_bytes c.loop-i.words.items ++ string_bytes c.loop-i.word ∷ [] = rw (c.in_ok-push-2.ensures.items, c.replace.ensures.value) (map_push string_bytes c.loop-i.words.items c.loop-i.word) in
-    let word : string_bytes c.replace.new.dest ≡ [] = rw c.replace.ensures.after c.new.ensures.bytes in
-    rw (word, words) (sym step ∙ c.loop-i.invariant)
+-- whatever was refused, there is no line
+no_line : (e : ReadRefused) (text : List ℕ) (words : List (List ℕ)) → (e ≡ Incomplete → AllByRecursion IsVisible text) → (e ≡ Error → BeginsHidden text) → (e ≡ NoMemory → ⊥)
+    → words_from [] words text ≡ None
+no_line Incomplete text words i r m = no_end text words (i refl)
+no_line Error text words i r m = no_string text words (r refl)
+no_line NoMemory text words i r m = absurd (m refl)
+
+pub returns : goal.returns
+returns c =
+    let words = map (λ word. word.now) c.loop-behind.words.items in
+    let refused = c.in_default.ensures in
+    sym (no_line c.in_default.field-0 c.loop-behind.rest.now words (λ e. refused.incomplete.0 (ap Err e)) (λ e. refused.error.0 (ap Err e)) (λ e. refused.memory (ap Err e))) ∙ c.loop-behind.invariant

@@ -1,8 +1,10 @@
-use Rattle.std.proofs.Common.{◌≡◌, [], map, drop}
-use Rattle.std.specs.String.{string_bytes}
+use Rattle.std.proofs.Common.{◌≡◌, [], map, length}
 use Rattle.age_format.specs.private.Parse.{words_from}
 use Rattle.age_format.proofs.parse.words_at.Given as goal
 
 -- the words so far and those of what is left are those of the text
-abbrev pub invariant-loop-i : goal.invariant-loop-i
-invariant-loop-i l = words_from (string_bytes l.word) (map string_bytes l.words.items) (drop l.i l.text) ≡ words_from [] [] l.text
+abbrev pub invariant-loop-behind : goal.invariant-loop-behind
+invariant-loop-behind l = words_from [] (map (λ word. word.now) l.words.items) l.rest ≡ words_from [] [] l.text
+
+abbrev pub decreases-loop-behind : goal.decreases-loop-behind
+decreases-loop-behind l = length l.rest
