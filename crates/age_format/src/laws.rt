@@ -3,7 +3,7 @@
 ghost use Rattle.std.specs.Prelude.{◌≡◌, ℕ, ◌+◌, ◌-◌, ◌^◌, ◌<◌, List, [], ◌∷◌, ◌++◌, ◌↔◌, length, codes, replicate, Option, Some};
 ghost use Rattle.age_format.specs.Outside.{last_count, Rose, GainsPart};
 ghost use Rattle.age_format.specs.Stanza.{Stanza, IsStanza, IsFront, IsVisible, alphabet, body_lines, spelling};
-ghost use Rattle.age_format.specs.Front.{IsFrontByCases, IsMalformed};
+ghost use Rattle.age_format.specs.Front.{BeginsNone, IsFrontByCases, IsMalformed};
 ghost use Rattle.age_format.specs.Receiving.{Held, Receives, Took, fresh};
 ghost use Rattle.age_format.specs.Reading.{HasNoDone, IsDone, NoneDone, Reading, Reads, StandsBeforeDone, Before_done, Invalid_data, Unexpected_eof, Too_much};
 
@@ -45,6 +45,18 @@ pub fn no_spelling_begins_another()
         → spelling s ++ more ≡ spelling t ++ rest → s ≡ t }
     ensures rests { (s t : Stanza) (more rest : List ℕ) → IsStanza s → IsStanza t
         → spelling s ++ more ≡ spelling t ++ rest → more ≡ rest }
+{}
+
+/// No spelling begins a front: so each text has one answer of the strict reader, a stanza, a front or
+/// neither.
+pub fn fronts_begin_none()
+    ensures { (text : List ℕ) → IsFront text → BeginsNone text }
+{}
+
+/// What the strict reader takes for a stanza is the stanza's spelling: written again, it is what was
+/// consumed.
+pub fn what_is_read_is_consumed()
+    ensures { (text consumed rest : List ℕ) (s : Stanza) → text ≡ consumed ++ rest → text ≡ spelling s ++ rest → consumed ≡ spelling s }
 {}
 
 /// The proper prefixes of spellings are the three cases of the format: a part of `-> `; `-> ` and a
