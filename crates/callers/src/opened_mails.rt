@@ -3,11 +3,11 @@
 ghost use Rattle.std.specs.Prelude.{◌<◌, ℕ, [], IfSome, IsErrOf, length};
 ghost use Rattle.kem_hash.specs.Sha2.{sha2_family};
 ghost use Rattle.ml_kem.specs.Parameters.{ml_kem_768};
-ghost use Rattle.kem_mail.specs.Command.{kdf_algorithm, aead_algorithm, aead_open};
+ghost use Rattle.mail_commands.specs.Command.{kdf_algorithm, aead_algorithm, aead_open};
 ghost use Rattle.kem_mail.specs.Mail.{OpensByKey, IsVerdict};
 ghost use Rattle.kem_mail.specs.Taken.{Lost, BeginsList};
-ghost use Rattle.kem_mail.specs.declared.command.KdfName.TheVariants.{Sha256};
-ghost use Rattle.kem_mail.specs.declared.command.AeadName.TheVariants.{Aes256};
+ghost use Rattle.mail_commands.specs.declared.command.KdfName.TheVariants.{Sha256};
+ghost use Rattle.mail_commands.specs.declared.command.AeadName.TheVariants.{Aes256};
 
 use age_core::outside::Source;
 use hpke::{AesGcm256, HkdfSha256};

@@ -3,7 +3,7 @@
 
 use age_format::outside::{StdSink, StdSource};
 use kem_hash::Sha2Hash;
-use kem_mail::mail_main;
+use mail_commands::mail_main;
 use std::alloc::Global;
 use std::env::{self, Env};
 use std::io::ErrorKind;

@@ -13,10 +13,11 @@ use Rattle.ml_kem.specs.declared.error.KemError.TheVariants.{NoMemory as KemNoMe
 use Rattle.age_format.specs.Stanza.{spelling}
 use Rattle.hpke.specs.Schedule.{KdfAlgorithm, AeadAlgorithm, suite_of}
 use Rattle.hpke.specs.Lattice.{lattice_kem_id, lattice_decap}
-use Rattle.kem_mail.specs.Mail.{IsVerdict, OpenMeaning, Opens, OpensByKey, Verdict, opener_of}
+use Rattle.kem_mail.specs.Mail.{IsVerdict, OpenMeaning, Opens, OpensByKey, Verdict, opener_of, SameBodies, lattice_opener}
 use Rattle.kem_mail.specs.Taken.{IsTaken, IsShortBehindDone, Lost}
 use Rattle.kem_mail.specs.Causes.{of_kem}
-use Rattle.kem_mail.specs.declared.error.MailError.TheVariants.{NoMemory}
+use Rattle.kem_mail.specs.declared.error.MailError.TheVariants.{NoMemory, XofExhausted}
+use Rattle.kem_mail.proofs.Verdicts.{opens_verdict, same_bodies_verdict, same_verdict, some_verdict}
 
 -- ---- without a key nothing is taken
 
@@ -79,3 +80,43 @@ module _ (set : Parameters) (family : Family) (kdf : KdfAlgorithm) (aead : AeadA
       → IfSome left (λ text. (verdict : Verdict) → OpensByKey set family kdf aead meaning seed info text budget verdict → (rose → ⊥) → (result ≡ verdict) ⊎ (result ≡ Err NoMemory))
   complete_by_key None result rose h = tt
   complete_by_key (Some text) result rose h = λ verdict opens none. h verdict (by_kem text verdict opens) none
+
+-- ---- the verdict of a key
+
+-- a mail has one verdict for a lattice key
+pub same_by_key : (set : Parameters) (family : Family) (kdf : KdfAlgorithm) (aead : AeadAlgorithm) (meaning : OpenMeaning) (seed info text : List ℕ) (budget : ℕ) (v w : Verdict)
+    → OpensByKey set family kdf aead meaning seed info text budget v → OpensByKey set family kdf aead meaning seed info text budget w → v ≡ w
+same_by_key set family kdf aead meaning seed info text budget v w one other = by (key_of set family seed) refl
+  where
+    by : (key : Option Key) → key_of set family seed ≡ key → v ≡ w
+    by None e = one.without_key e ∙ sym (other.without_key e)
+    by (Some key) e = same_verdict (lattice_opener set family kdf aead meaning seed info) text budget v w (one.with_key key e) (other.with_key key e)
+
+-- no mail is without one
+pub some_by_key : (set : Parameters) (family : Family) (kdf : KdfAlgorithm) (aead : AeadAlgorithm) (meaning : OpenMeaning) (seed info text : List ℕ) (budget : ℕ)
+    → ((v : Verdict) → OpensByKey set family kdf aead meaning seed info text budget v → ⊥) → ⊥
+some_by_key set family kdf aead meaning seed info text budget none = by (key_of set family seed) refl
+  where
+    by : (key : Option Key) → key_of set family seed ≡ key → ⊥
+    by None e = none (Err XofExhausted) (record { without_key = λ _. refl; with_key = λ key f. absurd (let g = sym e ∙ f in cc) })
+    by (Some key) e = some_verdict (lattice_opener set family kdf aead meaning seed info) text budget (λ v opens. none v (record {
+      without_key = λ f. absurd (let g = sym e ∙ f in cc);
+      with_key = λ other f. let g : Some key ≡ Some other = sym e ∙ f in opens;
+    }))
+
+-- what a lattice key comes to is a verdict
+pub by_key_verdict : (set : Parameters) (family : Family) (kdf : KdfAlgorithm) (aead : AeadAlgorithm) (meaning : OpenMeaning) (seed info text : List ℕ) (budget : ℕ) (v : Verdict)
+    → OpensByKey set family kdf aead meaning seed info text budget v → IsVerdict v
+by_key_verdict set family kdf aead meaning seed info text budget v opens = by (key_of set family seed) refl
+  where
+    by : (key : Option Key) → key_of set family seed ≡ key → IsVerdict v
+    by None e = let same = opens.without_key e in ((λ f. let g = sym same ∙ f in cc g), (λ f. let g = sym same ∙ f in cc g))
+    by (Some key) e = opens_verdict (lattice_opener set family kdf aead meaning seed info) text budget v (opens.with_key key e)
+
+-- two mails with the same bodies come to the same
+pub same_bodies_by_key : (set : Parameters) (family : Family) (kdf : KdfAlgorithm) (aead : AeadAlgorithm) (meaning : OpenMeaning) (seed info text other : List ℕ) (budget limit : ℕ) (v : Verdict)
+    → SameBodies text budget other limit → OpensByKey set family kdf aead meaning seed info text budget v → OpensByKey set family kdf aead meaning seed info other limit v
+same_bodies_by_key set family kdf aead meaning seed info text other budget limit v same opens = record {
+  without_key = opens.without_key;
+  with_key = λ key e. same_bodies_verdict (lattice_opener set family kdf aead meaning seed info) text other budget limit v same (opens.with_key key e);
+}

@@ -1,12 +1,5 @@
-pub mod Writes
-pub mod Commands
-pub mod Inputs
 pub mod Tags
 pub mod Messages
 pub mod Takings
 pub mod Verdicts
-pub mod Dues
-pub mod Runs
 pub mod Keyed
-pub mod Tellings
-pub mod Headlines

@@ -2,9 +2,5 @@
 
 -- a value or a refusal of judging
 pub mod Answers
--- the bytes and the lines of an input
-pub mod InputParts
--- the mail behind a head, by the names of a suite
+-- the stanzas of a mail
 pub mod Opening
--- what is held for a sink, and what was told to one
-pub mod Telling

@@ -1,9 +1,8 @@
-//! Why a mail wasn't opened, and why a run wrote no items.
+//! Why a mail wasn't opened.
 
 ghost use Rattle.std.specs.Prelude.{◌≡◌};
 ghost use Rattle.kem_mail.specs.Causes.{of_phase, of_kem};
 ghost use Rattle.kem_mail.specs.declared.error.MailError.TheVariants.{NoMemory};
-ghost use Rattle.kem_mail.specs.declared.error.RunError.TheVariants.{Mail};
 
 use age_format::PhaseError;
 use ml_kem::KemError;
@@ -80,40 +79,5 @@ impl From<KemError> for MailError {
             KemError::NoMemory => MailError::NoMemory,
             KemError::XofExhausted => MailError::XofExhausted,
         }
-    }
-}
-
-/// Why a run wrote no items.
-#[derive(Clone, Copy, Debug, PartialEq, Eq)]
-pub enum RunError {
-    /// The byte at this place of the input, from 0, can't stand there.
-    Place(u64),
-    /// The source ended inside the input.
-    Ended,
-    /// The mail wasn't opened, or the key wasn't made.
-    Mail(MailError),
-}
-
-impl From<MailError> for RunError {
-    ghost from_gives = { λ m e. e ≡ Mail m };
-
-    fn from(e: MailError) -> RunError {
-        RunError::Mail(e)
-    }
-}
-
-impl<T: Drop> From<AllocFailed<T>> for RunError {
-    ghost from_gives = { λ _ e. e ≡ Mail NoMemory };
-
-    fn from(_e: AllocFailed<T>) -> RunError {
-        RunError::Mail(MailError::NoMemory)
-    }
-}
-
-impl From<AllocError> for RunError {
-    ghost from_gives = { λ _ e. e ≡ Mail NoMemory };
-
-    fn from(_e: AllocError) -> RunError {
-        RunError::Mail(MailError::NoMemory)
     }
 }

@@ -1,73 +1,23 @@
-//! Lists of byte strings: the items that a command writes, and the messages of a mail.
+//! Lists of byte strings: the messages of a mail.
 
-ghost use Rattle.std.specs.Prelude.{◌≡◌, ◌==◌, ◌∷◌, ◌++◌, [], length, slice_get, OnOk};
+ghost use Rattle.std.specs.Prelude.{◌≡◌, ◌==◌, ◌∷◌, ◌++◌, [], length, map, slice_get, OnOk};
 ghost use Rattle.std.specs.Option.{option_copied};
 
 use std::alloc::{AllocError, Global};
 use std::marker::Model;
 
-/// What a command writes, item by item.
+/// The messages of a mail, in order.
 #[derive(Drop)]
-pub struct ItemList {
-    items: Vec<Vec<u8>>,
+pub struct MessageList {
+    messages: Vec<Vec<u8>>,
 }
 
-impl Model for ItemList {
+impl Model for MessageList {
     ghost use Rattle.std.specs.Prelude.{ℕ, List, map};
 
     ghost Value = { List (List ℕ) };
 
-    ghost view = { λ list. map (λ item. item.items) list.items.items };
-}
-
-impl ItemList {
-    // A list of no items. It takes no memory.
-    pub fn new(alloc: Global) -> ItemList
-        ensures { result ≡ [] }
-    {
-        ItemList {
-            items: Vec::new(alloc),
-        }
-    }
-
-    // Puts an item behind the others.
-    pub fn push(&mut self, item: Vec<u8>) -> Result<(), AllocError>
-        ensures pushed { OnOk result (self.new ≡ self.old ++ item.items ∷ []) }
-    {
-        self.items.push(item)?;
-        Ok(())
-    }
-
-    // How many items there are.
-    pub fn len(&self) -> usize
-        ensures { result ≡ length self.now }
-    {
-        self.items.len()
-    }
-
-    // The item at a place from 0, or none where the place is the length or more.
-    pub fn get(&self, i: usize) -> Option<&[u8]>
-        ensures { option_copied result ≡ slice_get self.now i }
-    {
-        match self.items.get(i) {
-            None => None,
-            Some(item) => Some(item.as_slice()),
-        }
-    }
-}
-
-/// The messages of a mail, in order.
-#[derive(Drop)]
-pub struct MessageList {
-    messages: ItemList,
-}
-
-impl Model for MessageList {
-    ghost use Rattle.std.specs.Prelude.{ℕ, List};
-
-    ghost Value = { List (List ℕ) };
-
-    ghost view = { λ list. list.messages };
+    ghost view = { λ list. map (λ message. message.items) list.messages.items };
 }
 
 impl MessageList {
@@ -76,7 +26,7 @@ impl MessageList {
         ensures { result ≡ [] }
     {
         MessageList {
-            messages: ItemList::new(alloc),
+            messages: Vec::new(alloc),
         }
     }
 
@@ -84,12 +34,20 @@ impl MessageList {
     pub(crate) fn push(&mut self, message: Vec<u8>) -> Result<(), AllocError>
         ensures pushed { OnOk result (self.new ≡ self.old ++ message.items ∷ []) }
     {
-        self.messages.push(message)
+        self.messages.push(message)?;
+        Ok(())
     }
 
-    // The messages as the items of a command.
-    pub(crate) fn into_items(self) -> ItemList
-        ensures { result ≡ self }
+    /// The messages of a list. It takes no memory.
+    pub fn from_vecs(items: Vec<Vec<u8>>) -> MessageList
+        ensures { result ≡ map (λ item. item.items) items.items }
+    {
+        MessageList { messages: items }
+    }
+
+    /// The list of the messages. It takes no memory.
+    pub fn into_vecs(self) -> Vec<Vec<u8>>
+        ensures { map (λ item. item.items) result.items ≡ self }
     {
         self.messages
     }
@@ -112,6 +70,9 @@ impl MessageList {
     pub fn get(&self, i: usize) -> Option<&[u8]>
         ensures { option_copied result ≡ slice_get self.now i }
     {
-        self.messages.get(i)
+        match self.messages.get(i) {
+            None => None,
+            Some(message) => Some(message.as_slice()),
+        }
     }
 }

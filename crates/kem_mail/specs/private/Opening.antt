@@ -1,20 +1,13 @@
--- The stanzas of a mail, and the mail behind a head.
-use Rattle.std.specs.Prelude.{◌≡◌, ℕ, ◌≤◌, List, [], length, ◌⊎◌, Option, None, Some, IfSome, Result, Ok, Err}
-use Rattle.kem_hash.specs.Family.{Family}
-use Rattle.ml_kem.specs.Parameters.{Parameters}
-use Rattle.ml_kem.specs.Keys.{key_of}
-use Rattle.hpke.specs.Schedule.{KdfAlgorithm, AeadAlgorithm}
-use Rattle.age_format.specs.Outside.{Rose}
+-- The stanzas of a mail.
+use Rattle.std.specs.Prelude.{◌≡◌, ℕ, ◌≤◌, List, length, Result, Ok, Err}
 use Rattle.age_format.specs.Stanza.{Stanza}
 use Rattle.age_format.specs.Reading.{Reads, Before_done, Invalid_data, Unexpected_eof, Too_much}
 use Rattle.age_format.specs.declared.error.PhaseError.{PhaseError}
 use Rattle.age_format.specs.declared.error.PhaseError.TheVariants.{NoMemory as PhaseNoMemory, WriteFault as PhaseWriteFault, ReadFault as PhaseReadFault, InvalidData as PhaseInvalidData, UnexpectedEof as PhaseUnexpectedEof, TooMuch as PhaseTooMuch}
-use Rattle.kem_mail.specs.Mail.{Verdict, OpenMeaning, IsVerdict, OpensByKey}
 use Rattle.kem_mail.specs.Causes.{of_phase}
-use Rattle.kem_mail.specs.Taken.{Lost, IsTaken, IsShortBehindDone, StoppedBy}
+use Rattle.kem_mail.specs.Taken.{IsShortBehindDone, StoppedBy}
 use Rattle.kem_mail.specs.private.Answers.{emptied}
 use Rattle.kem_mail.specs.declared.error.MailError.{MailError}
-use Rattle.kem_mail.specs.declared.error.MailError.TheVariants.{NoMemory, XofExhausted, ReadFault, UnexpectedEof}
 
 -- the reading of a text for which a phase is refused
 abbrev pub IsRefusedFor : PhaseError → List ℕ → ℕ → Type 0
@@ -35,12 +28,3 @@ pub record ReadTaken {X : Type 0} (budget : ℕ) (result : Result X MailError) (
   pub within : length bytes ≤ budget
   pub behind : IsShortBehindDone bytes
   pub stopped : StoppedBy (emptied result) budget bytes
-
--- what opening the mail behind a head gave, and did to the source
-pub record IsOpened (set : Parameters) (family : Family) (kdf : KdfAlgorithm) (aead : AeadAlgorithm) (open_of : OpenMeaning) (seed info : List ℕ) (budget : ℕ) (left left_now : Option (List ℕ)) (faults faults_now : ℕ) (result : Verdict) : Type 0 where
-  pub verdict : IfSome left (λ text. IsVerdict result → OpensByKey set family kdf aead open_of seed info text budget result)
-  pub no_key : key_of set family seed ≡ None → (left_now ≡ left) × ((result ≡ Err XofExhausted) ⊎ (result ≡ Err NoMemory))
-  pub taken : Lost left left_now (IsTaken budget result)
-  pub at_end : result ≡ Err UnexpectedEof → IfSome left (λ text. left_now ≡ Some [])
-  pub read_fault : result ≡ Err ReadFault → Rose faults faults_now
-  pub no_fault : (result ≡ Err ReadFault → ⊥) → faults_now ≡ faults

@@ -1,4 +1,4 @@
-use Rattle.kem_mail.proofs.Dues.{same_bodies_by_key, same_bodies_due}
+use Rattle.kem_mail.proofs.Keyed.{same_bodies_by_key}
 use Rattle.kem_mail.proofs.Verdicts.{same_bodies_verdict}
 use Rattle.kem_mail.proofs.laws.same_bodies.Goals as goal
 
@@ -7,7 +7,3 @@ returns-clause-opens c = λ opener text other budget limit verdict same opens. s
 
 pub returns-clause-by_key : goal.returns-clause-by_key
 returns-clause-by_key c = λ set family kdf aead open_of seed info text other budget limit verdict same opens. same_bodies_by_key set family kdf aead open_of seed info text other budget limit verdict same opens
-
-pub returns-clause-due : goal.returns-clause-due
-returns-clause-due c = λ family suite budget limit words others head text other status output spelled spells is same due.
-    same_bodies_due family suite budget limit head text other is same words others status output spelled spells due

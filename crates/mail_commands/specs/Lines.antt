@@ -1,0 +1,37 @@
+-- The lines that a run writes.
+use Rattle.std.specs.Prelude.{ℕ, List, [], ◌∷◌, ◌++◌, codes, decimal}
+use Rattle.std.specs.List.{flat_map}
+use Rattle.hex.specs.Hex.{encode_lower}
+use Rattle.kem_mail.specs.declared.error.MailError.TheVariants.{NoMemory, XofExhausted, ReadFault, InvalidData, UnexpectedEof, TooMuch, NotOneKem, IncorrectInputLength, OpenError}
+use Rattle.mail_commands.specs.declared.error.RunError.{RunError}
+use Rattle.mail_commands.specs.declared.error.RunError.TheVariants.{Place, Ended, Mail}
+
+-- each item in lower-case hexadecimal digits, with a line feed
+abbrev pub lines : List (List ℕ) → List ℕ
+lines items = flat_map (λ item. encode_lower item ++ 10 ∷ []) items
+
+-- the numbers of a fault in decimal, each behind a space
+abbrev pub spaced : List ℕ → List ℕ
+spaced numbers = flat_map (λ n. 32 ∷ decimal n) numbers
+
+-- the line of a fault: `! `, its name, its numbers, and a line feed
+abbrev pub fault_line : List ℕ → List ℕ → List ℕ
+fault_line name numbers = codes "! " ++ (name ++ (spaced numbers ++ 10 ∷ []))
+
+-- the line of why a run wrote no items; of want of memory and of a fault of the source there is none
+abbrev pub error_line : RunError → List ℕ
+error_line (Place place) = fault_line (codes "head") (place ∷ [])
+error_line Ended = fault_line (codes "head ended") []
+error_line (Mail NoMemory) = []
+error_line (Mail ReadFault) = []
+error_line (Mail XofExhausted) = fault_line (codes "XofExhausted") []
+error_line (Mail InvalidData) = fault_line (codes "InvalidData") []
+error_line (Mail UnexpectedEof) = fault_line (codes "UnexpectedEof") []
+error_line (Mail TooMuch) = fault_line (codes "TooMuch") []
+error_line (Mail (NotOneKem count)) = fault_line (codes "NotOneKem") (count ∷ [])
+error_line (Mail (IncorrectInputLength expected given)) = fault_line (codes "IncorrectInputLength") (expected ∷ given ∷ [])
+error_line (Mail (OpenError number)) = fault_line (codes "OpenError") (number ∷ [])
+
+-- the line of words that spell no command
+abbrev pub no_command_line : List ℕ
+no_command_line = fault_line (codes "words") []

@@ -1,0 +1,25 @@
+-- A run of a command: what it ended with, what it told, and what it took.
+use Rattle.std.specs.Prelude.{◌≡◌, ◌≢◌, ℕ, List, [], Option, Some, IfSome, Err, ◌⊎◌}
+use Rattle.kem_hash.specs.Family.{Family}
+use Rattle.age_format.specs.Outside.{Rose, Wrote, WrotePart}
+use Rattle.mail_commands.specs.Due.{EndsWith, IsAnswer, Outcome, outcome_status}
+use Rattle.kem_mail.specs.Taken.{Lost}
+use Rattle.mail_commands.specs.Taken.{IsAtEnd, Takes}
+use Rattle.mail_commands.specs.declared.command.Command.{Command}
+use Rattle.kem_mail.specs.declared.error.MailError.TheVariants.{ReadFault}
+use Rattle.mail_commands.specs.declared.error.RunError.TheVariants.{Mail}
+
+-- A run answered this status and told this output; or its sink failed at an output that is owed, which it
+-- told a part of.
+abbrev pub IsTold : {W : Type 0} → (W → Option (List ℕ)) → (W → ℕ) → (W → List ℕ) → W → W → ℕ → ℕ → List ℕ → Type 0
+IsTold got faults plan before now result status output = ((result ≡ status) × Wrote got faults plan before now output)
+    ⊎ ((result ≡ 5) × IsAnswer status × WrotePart got faults plan before now output)
+
+-- What a run of a command did to its source, by an outcome: where the source tells its bytes and the
+-- outcome is an answer, the command ends with it over them.
+pub record CameTo (family : Family) (command : Command) (left left_now : Option (List ℕ)) (faults faults_now : ℕ) (outcome : Outcome) : Type 0 where
+  pub ends_with : IfSome left (λ text. IsAnswer (outcome_status outcome) → EndsWith family command text outcome)
+  pub took : Lost left left_now (Takes family command outcome)
+  pub at_end : IsAtEnd outcome → IfSome left (λ text. left_now ≡ Some [])
+  pub read_fault : outcome ≡ Err (Mail ReadFault) → Rose faults faults_now
+  pub no_fault : outcome ≢ Err (Mail ReadFault) → faults_now ≡ faults

@@ -1,0 +1,8 @@
+-- What private functions answer. No public clause cites it, and nothing here has to be believed.
+
+-- the bytes and the lines of an input
+pub mod InputParts
+-- the mail behind a head, by the names of a suite
+pub mod Opening
+-- what is held for a sink, and what was told to one
+pub mod Telling

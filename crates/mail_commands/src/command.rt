@@ -1,0 +1,147 @@
+//! The commands and the words that spell them.
+
+ghost use Rattle.std.specs.Prelude.{◌≡◌, ◌↔◌, ◌≤◌, ℕ, List, [], ◌∷◌, map, codes, decimal, IfNone, IfSome, IsTrue};
+ghost use Rattle.std.specs.String.{string_bytes};
+ghost use Rattle.mail_commands.specs.Command.{Spells, set_word, kdf_word, aead_word, greatest_budget};
+
+use itoa::Buffer;
+
+// The most bytes of a mail that a command may ask to be read.
+const GREATEST_BUDGET: u64 = 16_777_216;
+
+/// A parameter set of the lattice KEM.
+#[derive(Clone, Copy, Debug, PartialEq, Eq)]
+pub enum SetName {
+    Set512,
+    Set768,
+    Set1024,
+}
+
+/// A KDF: HKDF over a hash function.
+#[derive(Clone, Copy, Debug, PartialEq, Eq)]
+pub enum KdfName {
+    Sha256,
+    Sha384,
+    Sha512,
+}
+
+/// An AEAD: AES-GCM with keys of a size.
+#[derive(Clone, Copy, Debug, PartialEq, Eq)]
+pub enum AeadName {
+    Aes128,
+    Aes256,
+}
+
+/// The algorithms of a mail.
+#[derive(Clone, Copy, Debug, PartialEq, Eq)]
+pub struct SuiteName {
+    pub set: SetName,
+    pub kdf: KdfName,
+    pub aead: AeadName,
+}
+
+/// A command.
+#[derive(Clone, Copy, Debug, PartialEq, Eq)]
+pub enum Command {
+    /// Opens a mail of a suite, of which so many bytes are read at most.
+    Open(SuiteName, u64),
+    /// Writes the encapsulation key of a seed.
+    Key(SetName),
+}
+
+// The parameter set of a word.
+fn set_named(word: &str) -> Option<SetName>
+    ensures found { IfSome result (λ set. word.now ≡ set_word set) }
+    ensures none { IfNone result ((set : SetName) → word.now ≡ set_word set → ⊥) }
+{
+    match word {
+        "512" => Some(SetName::Set512),
+        "768" => Some(SetName::Set768),
+        "1024" => Some(SetName::Set1024),
+        _ => None,
+    }
+}
+
+// The KDF of a word.
+fn kdf_named(word: &str) -> Option<KdfName>
+    ensures found { IfSome result (λ kdf. word.now ≡ kdf_word kdf) }
+    ensures none { IfNone result ((kdf : KdfName) → word.now ≡ kdf_word kdf → ⊥) }
+{
+    match word {
+        "sha256" => Some(KdfName::Sha256),
+        "sha384" => Some(KdfName::Sha384),
+        "sha512" => Some(KdfName::Sha512),
+        _ => None,
+    }
+}
+
+// The AEAD of a word.
+fn aead_named(word: &str) -> Option<AeadName>
+    ensures found { IfSome result (λ aead. word.now ≡ aead_word aead) }
+    ensures none { IfNone result ((aead : AeadName) → word.now ≡ aead_word aead → ⊥) }
+{
+    match word {
+        "aes128" => Some(AeadName::Aes128),
+        "aes256" => Some(AeadName::Aes256),
+        _ => None,
+    }
+}
+
+// The budget that a word spells: a decimal number without a leading zero, from 1 on.
+fn budget_of(word: &str) -> Option<u64>
+    ensures found { IfSome result (λ n. (word.now ≡ decimal n) × (1 ≤ n) × (n ≤ greatest_budget)) }
+    ensures none { IfNone result ((n : ℕ) → word.now ≡ decimal n → 1 ≤ n → n ≤ greatest_budget → ⊥) }
+{
+    let Ok(budget) = word.parse::<u64>() else {
+        return None;
+    };
+    if budget < 1 || budget > GREATEST_BUDGET {
+        return None;
+    }
+    // A sign and leading zeros are parsed too, but not written again.
+    let mut buffer = Buffer::new();
+    if buffer.format(budget) == word {
+        Some(budget)
+    } else {
+        None
+    }
+}
+
+// The command that makes a key, with this word behind its own.
+fn key_command(set: &str) -> Option<Command>
+    ensures found { IfSome result (λ command. Spells (codes "key" ∷ set.now ∷ []) command) }
+    ensures none { IfNone result ((command : Command) → Spells (codes "key" ∷ set.now ∷ []) command → ⊥) }
+{
+    let set = set_named(set)?;
+    Some(Command::Key(set))
+}
+
+// The command that opens a mail, with these words behind its own.
+fn open_command(set: &str, kdf: &str, aead: &str, budget: &str) -> Option<Command>
+    ensures found { IfSome result (λ command. Spells (codes "open" ∷ set.now ∷ kdf.now ∷ aead.now ∷ budget.now ∷ []) command) }
+    ensures none { IfNone result ((command : Command)
+        → Spells (codes "open" ∷ set.now ∷ kdf.now ∷ aead.now ∷ budget.now ∷ []) command → ⊥) }
+{
+    let set = set_named(set)?;
+    let kdf = kdf_named(kdf)?;
+    let aead = aead_named(aead)?;
+    let budget = budget_of(budget)?;
+    Some(Command::Open(SuiteName { set, kdf, aead }, budget))
+}
+
+/// The command that words spell.
+pub fn command_of(words: &[String]) -> Option<Command>
+    ensures found { IfSome result (λ command. Spells (map string_bytes words.now) command) }
+    ensures none { IfNone result ((command : Command) → Spells (map string_bytes words.now) command → ⊥) }
+{
+    match words {
+        [name, set] if name.as_str() == "key" => key_command(set.as_str()),
+        [name, set, kdf, aead, budget] if name.as_str() == "open" => open_command(
+            set.as_str(),
+            kdf.as_str(),
+            aead.as_str(),
+            budget.as_str(),
+        ),
+        _ => None,
+    }
+}

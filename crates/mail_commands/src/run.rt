@@ -1,0 +1,262 @@
+//! A run of the program.
+
+ghost use Rattle.std.specs.Prelude.{◌≡◌, ◌≢◌, ◌≤◌, ◌⊎◌, ◌∷◌, ℕ, List, [], map, Err, IfSome};
+ghost use Rattle.std.specs.String.{string_bytes};
+ghost use Rattle.age_format.specs.Outside.{Rose, Gains, GainsPart};
+ghost use Rattle.ml_kem.specs.Keys.{key_of};
+ghost use Rattle.mail_commands.specs.Command.{Spells, parameters, kdf_algorithm, aead_algorithm, aead_open};
+ghost use Rattle.mail_commands.specs.Due.{Due, IsAnswer, Outcome, key_verdict, outcome_status, outcome_output};
+ghost use Rattle.mail_commands.specs.Lines.{lines, error_line, no_command_line};
+ghost use Rattle.kem_mail.specs.Mail.{Verdict};
+ghost use Rattle.kem_mail.specs.Taken.{Lost};
+ghost use Rattle.mail_commands.specs.Taken.{MostTakes, Takes};
+ghost use Rattle.mail_commands.specs.Run.{CameTo, IsTold};
+ghost use Rattle.kem_mail.specs.private.Answers.{Judges};
+ghost use Rattle.mail_commands.specs.private.Opening.{IsOpened};
+
+use crate::command::{AeadName, Command, KdfName, SetName, SuiteName, command_of};
+use crate::error::RunError;
+use crate::input::{Head, next_head, next_seed};
+use crate::lines::{write_error, write_fault_line, write_lines};
+use crate::list::ItemList;
+use age_format::outside::{Failed, Sink, Source};
+use hpke::{AesGcm128, AesGcm256, HkdfSha256, HkdfSha384, HkdfSha512, Kdf};
+use kem_hash::KemHash;
+use kem_mail::{MailError, MessageList, open_mail};
+use ml_kem::{DecapsulationKey, MlKem512, MlKem768, MlKem1024, ParameterSet, Seed};
+use std::alloc::Global;
+
+// The status of a run that did what its command says.
+const DONE: u8 = 0;
+
+// The status of a run whose words spell no command.
+const NO_COMMAND: u8 = 2;
+
+// The status of a run whose input, mail or key is at fault.
+const REFUSED: u8 = 3;
+
+// The status of a run whose source failed.
+const READ_FAULT: u8 = 4;
+
+// The status of a run whose sink failed.
+const WRITE_FAULT: u8 = 5;
+
+// The status of a run that found no memory.
+const NO_MEMORY: u8 = 6;
+
+// Opens the mail behind a head, by a set, a KDF and an AEAD.
+fn open_aead<P: ParameterSet, H: KemHash, D: Kdf, S: Source>(
+    alloc: Global,
+    aead: AeadName,
+    head: &Head,
+    src: &mut S,
+    budget: u64,
+) -> Result<MessageList, MailError>
+    ensures opened { IsOpened P.set H.family D.kdf (aead_algorithm aead) (aead_open aead) head.now.seed head.now.info.items budget
+        (S.left src.old) (S.left src.new) (S.faults src.old) (S.faults src.new) result }
+    ensures faults { S.faults src.old ≤ S.faults src.new }
+{
+    match aead {
+        AeadName::Aes128 => {
+            open_mail::<P, H, D, AesGcm128, S>(alloc, &head.seed, &head.info, src, budget)
+        }
+        AeadName::Aes256 => {
+            open_mail::<P, H, D, AesGcm256, S>(alloc, &head.seed, &head.info, src, budget)
+        }
+    }
+}
+
+// The same by the names of the KDF and the AEAD.
+fn open_kdf<P: ParameterSet, H: KemHash, S: Source>(
+    alloc: Global,
+    kdf: KdfName,
+    aead: AeadName,
+    head: &Head,
+    src: &mut S,
+    budget: u64,
+) -> Result<MessageList, MailError>
+    ensures opened { IsOpened P.set H.family (kdf_algorithm kdf) (aead_algorithm aead) (aead_open aead) head.now.seed head.now.info.items budget
+        (S.left src.old) (S.left src.new) (S.faults src.old) (S.faults src.new) result }
+    ensures faults { S.faults src.old ≤ S.faults src.new }
+{
+    match kdf {
+        KdfName::Sha256 => open_aead::<P, H, HkdfSha256, S>(alloc, aead, head, src, budget),
+        KdfName::Sha384 => open_aead::<P, H, HkdfSha384, S>(alloc, aead, head, src, budget),
+        KdfName::Sha512 => open_aead::<P, H, HkdfSha512, S>(alloc, aead, head, src, budget),
+    }
+}
+
+// The same by the name of a suite.
+fn open_suite<H: KemHash, S: Source>(
+    alloc: Global,
+    suite: SuiteName,
+    head: &Head,
+    src: &mut S,
+    budget: u64,
+) -> Result<MessageList, MailError>
+    ensures opened { IsOpened (parameters suite.set) H.family (kdf_algorithm suite.kdf) (aead_algorithm suite.aead) (aead_open suite.aead)
+        head.now.seed head.now.info.items budget (S.left src.old) (S.left src.new) (S.faults src.old) (S.faults src.new) result }
+    ensures faults { S.faults src.old ≤ S.faults src.new }
+{
+    let (kdf, aead) = (suite.kdf, suite.aead);
+    match suite.set {
+        SetName::Set512 => open_kdf::<MlKem512, H, S>(alloc, kdf, aead, head, src, budget),
+        SetName::Set768 => open_kdf::<MlKem768, H, S>(alloc, kdf, aead, head, src, budget),
+        SetName::Set1024 => open_kdf::<MlKem1024, H, S>(alloc, kdf, aead, head, src, budget),
+    }
+}
+
+// The encapsulation key of a seed.
+fn public_key<P: ParameterSet, H: KemHash>(alloc: Global, seed: &Seed) -> Result<Vec<u8>, MailError>
+    ensures { Judges (λ bytes. bytes.items ∷ []) result (key_verdict (key_of P.set H.family seed.now)) }
+{
+    let key = DecapsulationKey::<P, H>::from_seed(alloc, seed)?;
+    let bytes = key.encapsulation_key().to_bytes()?;
+    Ok(bytes)
+}
+
+// The same by the name of a set.
+fn public_key_of<H: KemHash>(alloc: Global, set: SetName, seed: &Seed) -> Result<Vec<u8>, MailError>
+    ensures { Judges (λ bytes. bytes.items ∷ []) result (key_verdict (key_of (parameters set) H.family seed.now)) }
+{
+    match set {
+        SetName::Set512 => public_key::<MlKem512, H>(alloc, seed),
+        SetName::Set768 => public_key::<MlKem768, H>(alloc, seed),
+        SetName::Set1024 => public_key::<MlKem1024, H>(alloc, seed),
+    }
+}
+
+// What a command ends with: the items that it writes, or why it writes none.
+fn items_of<H: KemHash, S: Source>(
+    alloc: Global,
+    command: Command,
+    src: &mut S,
+) -> Result<ItemList, RunError>
+    ensures came { CameTo H.family command (S.left src.old) (S.left src.new) (S.faults src.old) (S.faults src.new) result }
+    ensures faults { S.faults src.old ≤ S.faults src.new }
+{
+    match command {
+        Command::Open(suite, budget) => {
+            let head = next_head(alloc, src)?;
+            let messages = open_suite::<H, S>(alloc, suite, &head, src, budget)?;
+            Ok(ItemList::from_messages(messages))
+        }
+        Command::Key(set) => {
+            let seed = next_seed(alloc, src)?;
+            let key = public_key_of::<H>(alloc, set, &seed)?;
+            let mut items = ItemList::new(alloc);
+            items.push(key)?;
+            Ok(items)
+        }
+    }
+}
+
+// Answers the status of a run that wrote no items, and writes the line that is due for it.
+fn refuse<W: Sink>(out: &mut W, error: RunError) -> u8
+    ensures { IsTold W.got W.faults W.plan out.old out.new result (outcome_status (Err error)) (error_line error) }
+{
+    match error {
+        RunError::Mail(MailError::NoMemory) => NO_MEMORY,
+        RunError::Mail(MailError::ReadFault) => READ_FAULT,
+        other => match write_error(out, other) {
+            Ok(()) => REFUSED,
+            Err(Failed) => WRITE_FAULT,
+        },
+    }
+}
+
+// Writes what a command ended with, and answers the status of the run.
+fn tell<W: Sink>(out: &mut W, outcome: Result<ItemList, RunError>) -> u8
+    ensures { IsTold W.got W.faults W.plan out.old out.new result (outcome_status outcome) (outcome_output outcome) }
+{
+    match outcome {
+        Ok(items) => match write_lines(out, &items) {
+            Ok(()) => DONE,
+            Err(Failed) => WRITE_FAULT,
+        },
+        Err(error) => refuse(out, error),
+    }
+}
+
+// Writes the line of words that spell no command, and answers the status of the run.
+fn tell_no_command<W: Sink>(out: &mut W) -> u8
+    ensures { IsTold W.got W.faults W.plan out.old out.new result 2 no_command_line }
+{
+    match write_fault_line(out, b"words", &[]) {
+        Ok(()) => NO_COMMAND,
+        Err(Failed) => WRITE_FAULT,
+    }
+}
+
+/// Runs the program: does what its words say over a source, and writes to a sink. The answer is the status.
+///
+/// The words are one of these, where SET is `512`, `768` or `1024`, KDF is `sha256`, `sha384` or `sha512`,
+/// AEAD is `aes128` or `aes256`, and BUDGET is a decimal number from 1 to 16777216:
+///
+/// - `open SET KDF AEAD BUDGET`. The source begins with a head: 128 hexadecimal digits, the seed; a line
+///   feed; an even number of digits up to 8192, the info; a line feed. A mail follows, of which BUDGET bytes
+///   are read at most. Its messages are written, one line of lower-case digits each.
+/// - `key SET`. The source begins with 128 hexadecimal digits, the seed, and a line feed. The encapsulation
+///   key of the seed is written in lower-case digits, with a line feed.
+///
+/// Status 0: that was written. 2: the words are others, and `! words` was written. 3: the input, the key or
+/// the mail is at fault, and the line of the fault was written: `! head PLACE` for the byte at a place, from
+/// 0, that can't stand there, `! head ended`, or the name of a [`MailError`] with its numbers. 4: the source
+/// failed, and nothing was written. 5: the sink failed, and a front of what is due was written. 6: memory ran
+/// out, and nothing was written.
+pub fn mail_main<H: KemHash, S: Source, W: Sink>(
+    alloc: Global,
+    words: &[String],
+    src: &mut S,
+    out: &mut W,
+) -> u8
+    // What was written is what is due.
+    ensures answered { IfSome (S.left src.old) (λ text. IsAnswer result → (output : List ℕ)
+        × Due H.family (map string_bytes words.now) text result output × Gains (W.got out.old) (W.got out.new) output) }
+    ensures fault_told { result ≡ 3 → (error : RunError) × (outcome_status (Err error) ≡ 3) × Gains (W.got out.old) (W.got out.new) (error_line error) }
+
+    // A fault of the source, exactly where its count rose, with nothing written; and what was taken before it.
+    ensures read_fault { result ≡ 4 → Rose (S.faults src.old) (S.faults src.new) × Gains (W.got out.old) (W.got out.new) [] }
+    ensures no_read_fault { result ≢ 4 → S.faults src.new ≡ S.faults src.old }
+    ensures read_part { result ≡ 4 → (command : Command) × Spells (map string_bytes words.now) command
+        × Lost (S.left src.old) (S.left src.new) (Takes H.family command (Err (RunError.Mail MailError.ReadFault))) }
+
+    // A fault of the sink, exactly where its count rose, with a front of what is due.
+    ensures write_fault { result ≡ 5 → Rose (W.faults out.old) (W.faults out.new) }
+    ensures no_write_fault { result ≢ 5 → W.faults out.new ≡ W.faults out.old }
+    ensures write_part { IfSome (S.left src.old) (λ text. result ≡ 5 → (status : ℕ) × (output : List ℕ)
+        × Due H.family (map string_bytes words.now) text status output × GainsPart (W.got out.old) (W.got out.new) output) }
+
+    // Want of memory, and nothing written.
+    ensures memory { result ≡ 6 → Gains (W.got out.old) (W.got out.new) [] }
+
+    // The words alone decide on status 2 and its line, whatever the source tells, and then nothing is read.
+    ensures command { result ≡ 2 → (command : Command) → Spells (map string_bytes words.now) command → ⊥ }
+    ensures no_command { ((command : Command) → Spells (map string_bytes words.now) command → ⊥) → (result ≡ 2) ⊎ (result ≡ 5) }
+    ensures command_line { result ≡ 2 → Gains (W.got out.old) (W.got out.new) no_command_line }
+    ensures unread { ((command : Command) → Spells (map string_bytes words.now) command → ⊥) → src.new ≡ src.old }
+
+    // What is due comes, where neither source nor sink fails, unless memory runs out.
+    ensures complete { IfSome (S.left src.old) (λ text. (status : ℕ) (output : List ℕ)
+        → Due H.family (map string_bytes words.now) text status output → (Rose (S.faults src.old) (S.faults src.new) → ⊥)
+        → (Rose (W.faults out.old) (W.faults out.new) → ⊥) → (result ≡ status) ⊎ (result ≡ 6)) }
+
+    // What a command ended with, which was told: it decides on what was taken, and whether the source is at its end.
+    ensures taken { (command : Command) → Spells (map string_bytes words.now) command → (outcome : Outcome)
+        × CameTo H.family command (S.left src.old) (S.left src.new) (S.faults src.old) (S.faults src.new) outcome
+        × IsTold W.got W.faults W.plan out.old out.new result (outcome_status outcome) (outcome_output outcome) }
+    // So nothing is taken behind the byte that decides on the input, and of a mail at most the budget.
+    ensures within { (command : Command) → Spells (map string_bytes words.now) command
+        → Lost (S.left src.old) (S.left src.new) (MostTakes command) }
+
+    ensures no_other { IsAnswer result ⊎ ((result ≡ 4) ⊎ ((result ≡ 5) ⊎ (result ≡ 6))) }
+    ensures source_faults { S.faults src.old ≤ S.faults src.new }
+    ensures sink_faults { W.faults out.old ≤ W.faults out.new }
+    ensures plan { W.plan out.new ≡ W.plan out.old }
+{
+    let Some(command) = command_of(words) else {
+        return tell_no_command(out);
+    };
+    let outcome = items_of::<H, S>(alloc, command, src);
+    tell(out, outcome)
+}
