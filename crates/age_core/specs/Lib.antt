@@ -4,3 +4,5 @@ pub mod Connecting
 pub mod Phases
 -- what private functions compute: no public clause cites it
 pub mod private
+-- what is seen of a phase that sends
+pub mod Sending

@@ -1,12 +1,15 @@
 //! The plugin protocol: phases of stanzas between two sides.
 
 mod connection;
+mod sending;
 #[cfg(test)]
 mod tests;
 mod unidir;
 
 pub use age_format::{PhaseError, StanzaReader};
+pub use age_send::{finish_to, send_stanza_to, send_to};
 pub use connection::Connection;
+pub use sending::UnidirSend;
 use thiserror::Error;
 pub use unidir::UnidirAnswer;
 

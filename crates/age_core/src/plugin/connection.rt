@@ -17,7 +17,7 @@ use std::io::{Read, Write};
 pub struct Connection<R, W> {
     pub(super) alloc: Global,
     source: R,
-    sink: W,
+    pub(super) sink: W,
     reader: StanzaReader,
 }
 
