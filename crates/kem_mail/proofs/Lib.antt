@@ -3,3 +3,8 @@ pub mod Messages
 pub mod Takings
 pub mod Verdicts
 pub mod Keyed
+pub mod SenderTexts
+pub mod Sends
+pub mod Sealed
+pub mod Greased
+pub mod SentMails

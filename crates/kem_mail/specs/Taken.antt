@@ -1,5 +1,5 @@
 -- What was taken of a source.
-use Rattle.std.specs.Prelude.{◌≡◌, ℕ, ◌+◌, ◌<◌, ◌≤◌, List, [], ◌++◌, length, Option, Some, IfSome, Err}
+use Rattle.std.specs.Prelude.{◌≡◌, ℕ, ◌<◌, ◌≤◌, List, [], ◌++◌, length, Option, Some, IfSome, Err}
 use Rattle.std.specs.List.{flat_map, AllByRecursion}
 use Rattle.age_format.specs.Stanza.{Stanza, IsStanza, IsFront, spelling}
 use Rattle.age_format.specs.Reading.{HasNoDone, IsDone, NoneDone, StandsBeforeDone}

@@ -4,3 +4,5 @@
 pub mod Answers
 -- the stanzas of a mail
 pub mod Opening
+-- what sends come to
+pub mod Sends

@@ -1,4 +1,4 @@
-//! Why a mail wasn't opened.
+//! Why a mail wasn't opened, or sealed and sent.
 
 ghost use Rattle.std.specs.Prelude.{◌≡◌};
 ghost use Rattle.kem_mail.specs.Causes.{of_phase, of_kem};
@@ -80,4 +80,21 @@ impl From<KemError> for MailError {
             KemError::XofExhausted => MailError::XofExhausted,
         }
     }
+}
+
+/// Why a mail wasn't sealed and sent to its end.
+#[derive(Clone, Copy, Debug, PartialEq, Eq, Error)]
+pub enum SealMailError {
+    /// Memory ran out.
+    #[error("no memory")]
+    NoMemory,
+    /// Nothing can be encapsulated to the key: a sample of its matrix is none.
+    #[error("nothing can be encapsulated to the key")]
+    XofExhausted,
+    /// The message of this number, from 0, can't be sealed.
+    #[error("message {0} can't be sealed")]
+    SealError(u64),
+    /// The sink failed.
+    #[error("the sink failed")]
+    WriteFault,
 }

@@ -1,10 +1,17 @@
 //! Laws of the definitions, each as the contract of a function that does nothing.
 
-ghost use Rattle.std.specs.Prelude.{◌≡◌, ℕ, List};
+ghost use Rattle.std.specs.Prelude.{◌≡◌, ◌≤◌, ◌++◌, ℕ, List, length, Option, None, Some, Ok};
 ghost use Rattle.kem_hash.specs.Family.{Family};
+ghost use Rattle.ml_kem.specs.Encapsulation.{decaps, encaps};
+ghost use Rattle.ml_kem.specs.Keys.{Key, key_of};
 ghost use Rattle.ml_kem.specs.Parameters.{Parameters};
-ghost use Rattle.hpke.specs.Schedule.{KdfAlgorithm, AeadAlgorithm};
-ghost use Rattle.kem_mail.specs.Mail.{Opener, OpenMeaning, Opens, OpensByKey, IsVerdict, SameBodies, Verdict};
+ghost use Rattle.hpke.specs.Mask.{mask_decap, mask_encap, mask_public};
+ghost use Rattle.hpke.specs.Schedule.{KdfAlgorithm, AeadAlgorithm, Suite};
+ghost use Rattle.kem_mail.specs.Mail.{Opener, OpenMeaning, Opens, OpensByKey, IsVerdict, SameBodies, Verdict, opener_of};
+ghost use Rattle.kem_mail.specs.Sealing.{lattice_sealer, sealer_of};
+ghost use Rattle.kem_mail.specs.SenderText.{SenderText};
+
+use hpke::Aead;
 
 /// No mail comes to two verdicts, none is without one, and none comes to want of memory or to a fault of
 /// the source.
@@ -26,4 +33,24 @@ pub fn same_bodies()
         (seed info text other : List ℕ) (budget limit : ℕ) (verdict : Verdict)
         → SameBodies text budget other limit → OpensByKey set family kdf aead open_of seed info text budget verdict
         → OpensByKey set family kdf aead open_of seed info other limit verdict }
+{}
+
+/// What a sender wrote opens to its messages, whatever stands behind it, within a budget that holds it: where
+/// the encapsulated key has its length, and decapsulation of it gives the secret. So it does by a lattice
+/// key, where decapsulation of the ciphertext gives the shared key of the encapsulation; and always over the
+/// test KEM.
+pub fn sealed_text_opens<A: Aead>()
+    ensures any { (suite : Suite) (info : List ℕ) (size : ℕ) (encap : List ℕ → Option (List ℕ × List ℕ)) (decap : List ℕ → Option (List ℕ))
+        (messages : List (List ℕ)) (draw shared key text rest : List ℕ) (budget : ℕ)
+        → encap draw ≡ Some (shared, key) → decap key ≡ Some shared → length key ≡ size
+        → SenderText (sealer_of suite info encap A.AeadImpl.seal_of) messages draw text → length text ≤ budget
+        → Opens (opener_of suite info size decap A.AeadImpl.open_of) (text ++ rest) budget (Ok messages) }
+    ensures lattice { (set : Parameters) (family : Family) (kdf : KdfAlgorithm) (aead : AeadAlgorithm) (seed info : List ℕ) (key : Key)
+        (messages : List (List ℕ)) (m c shared text rest : List ℕ) (budget : ℕ) → key_of set family seed ≡ Some key
+        → encaps set family key.ek m ≡ Some (c, shared) → decaps set family key.s key.ek key.z c ≡ Some shared → length c ≡ set.ct_size
+        → SenderText (lattice_sealer set family kdf aead A.AeadImpl.seal_of key.ek info) messages m text → length text ≤ budget
+        → OpensByKey set family kdf aead A.AeadImpl.open_of seed info (text ++ rest) budget (Ok messages) }
+    ensures mask { (suite : Suite) (info sk draw : List ℕ) (messages : List (List ℕ)) (text rest : List ℕ) (budget : ℕ) → length draw ≡ 32
+        → SenderText (sealer_of suite info (mask_encap (mask_public sk) None) A.AeadImpl.seal_of) messages draw text → length text ≤ budget
+        → Opens (opener_of suite info 32 (mask_decap sk None) A.AeadImpl.open_of) (text ++ rest) budget (Ok messages) }
 {}

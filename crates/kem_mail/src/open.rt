@@ -20,10 +20,10 @@ use hpke::{Aead, AeadCtxR, Deserializable, HpkeError, Kdf, Kem, OpModeR, setup_r
 use std::alloc::Global;
 
 // The tag of the stanza whose body is the encapsulated key.
-const KEM_TAG: &str = "kem";
+pub(crate) const KEM_TAG: &str = "kem";
 
 // The tag of the stanzas whose bodies are sealed messages.
-const MESSAGE_TAG: &str = "msg";
+pub(crate) const MESSAGE_TAG: &str = "msg";
 
 // The tag of the stanza that ends a mail.
 const DONE_TAG: &str = "done";
