@@ -1,6 +1,6 @@
 //! Laws of the definitions, each as the contract of a function that does nothing.
 
-ghost use Rattle.std.specs.Prelude.{◌≡◌, ◌≢◌, ℕ, ◌+◌, ◌%◌, ◌^◌, [], ◌∷◌, ◌++◌, codes};
+ghost use Rattle.std.specs.Prelude.{◌≡◌, ◌≢◌, ◌+◌, ◌%◌, ◌^◌, [], ◌∷◌, ◌++◌, codes};
 ghost use Rattle.rand_core.specs.Stream.{Stream, next_u32};
 ghost use Rattle.rand_core.specs.Steps.{stream_of, steps_u32};
 ghost use Rattle.age_format.specs.Stanza.{Stanza, IsStanza};
