@@ -37,6 +37,14 @@ fn sealed(
     Ok(Vec::from_slice(alloc, out.bytes())?)
 }
 
+/// Whether the message at a place is this one.
+fn is_message(messages: &MessageList, i: usize, expected: &[u8]) -> bool {
+    match messages.get(i) {
+        Some(message) => message == expected,
+        None => false,
+    }
+}
+
 #[test]
 fn opens_what_was_sealed(rt: HostRuntime) -> Result<(), Fail> {
     let alloc = rt.alloc();
@@ -48,7 +56,7 @@ fn opens_what_was_sealed(rt: HostRuntime) -> Result<(), Fail> {
         alloc, &SEED, b"info", &mut src, 65536,
     )?;
     assert_eq!(rt; opened.len(), 2);
-    assert_eq!(rt; opened.get(0), Some(b"hello".as_slice()));
-    assert_eq!(rt; opened.get(1), Some(b"".as_slice()));
+    assert!(rt; is_message(&opened, 0, b"hello"));
+    assert!(rt; is_message(&opened, 1, b""));
     Ok(())
 }
