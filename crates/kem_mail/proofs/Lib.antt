@@ -4,6 +4,7 @@ pub mod Takings
 pub mod Verdicts
 pub mod Keyed
 pub mod SenderTexts
+pub mod Honest
 pub mod Sends
 pub mod Sealed
 pub mod Greased

@@ -1,9 +1,13 @@
 //! Opening a mail with the lattice key of a seed.
 
-ghost use Rattle.std.specs.Prelude.{◌≡◌, ◌≢◌, ◌≤◌, ◌⊎◌, [], None, Err, IfSome, IsErrOf, Some};
+ghost use Rattle.std.specs.Prelude.{◌≡◌, ◌≢◌, ◌≤◌, ◌⊎◌, ◌++◌, ℕ, List, [], length, None, Ok, Err, IfSome, IsErrOf, Some};
 ghost use Rattle.age_format.specs.Outside.{Rose};
-ghost use Rattle.ml_kem.specs.Keys.{key_of};
+ghost use Rattle.kem_hash.specs.Family.{AreBytes};
+ghost use Rattle.ml_kem.specs.Keys.{Key, key_of};
+ghost use Rattle.decryption_noise.specs.Noise.{AllInside, honest_coins, noise_of};
 ghost use Rattle.kem_mail.specs.Mail.{OpensByKey, IsVerdict, Verdict};
+ghost use Rattle.kem_mail.specs.Sealing.{lattice_sealer};
+ghost use Rattle.kem_mail.specs.SenderText.{SenderText};
 ghost use Rattle.kem_mail.specs.Taken.{Lost, IsTaken};
 
 use crate::error::MailError;
@@ -34,6 +38,13 @@ pub fn open_mail<P: ParameterSet, H: KemHash, D: Kdf, A: Aead, S: Source>(
     ensures complete { IfSome (S.left src.old) (λ text. (verdict : Verdict)
         → OpensByKey P.set H.family D.kdf A.aead A.AeadImpl.open_of seed.now info.now text budget verdict
         → (Rose (S.faults src.old) (S.faults src.new) → ⊥) → (result ≡ verdict) ⊎ (result ≡ Err MailError.NoMemory)) }
+    // An honest mail: a text that a sender wrote to this key, by 32 bytes for which all of the noise is inside,
+    // opens to the sender's messages, unless memory runs out.
+    ensures honest { (key : Key) (messages : List (List ℕ)) (m text rest : List ℕ) → key_of P.set H.family seed.now ≡ Some key
+        → AreBytes 32 m → AllInside m (noise_of P.set H.family key m (honest_coins H.family key.ek m))
+        → SenderText (lattice_sealer P.set H.family D.kdf A.aead A.AeadImpl.seal_of key.ek info.now) messages m text
+        → S.left src.old ≡ Some (text ++ rest) → length text ≤ budget
+        → (Rose (S.faults src.old) (S.faults src.new) → ⊥) → (result ≡ Ok messages) ⊎ (result ≡ Err MailError.NoMemory) }
     ensures read_fault { IsErrOf result MailError.ReadFault → Rose (S.faults src.old) (S.faults src.new)
         × (key_of P.set H.family seed.now ≢ None) }
 

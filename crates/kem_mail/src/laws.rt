@@ -1,10 +1,11 @@
 //! Laws of the definitions, each as the contract of a function that does nothing.
 
 ghost use Rattle.std.specs.Prelude.{◌≡◌, ◌≤◌, ◌++◌, ℕ, List, length, Option, None, Some, Ok};
-ghost use Rattle.kem_hash.specs.Family.{Family};
+ghost use Rattle.kem_hash.specs.Family.{AreBytes, Family};
 ghost use Rattle.ml_kem.specs.Encapsulation.{decaps, encaps};
 ghost use Rattle.ml_kem.specs.Keys.{Key, key_of};
-ghost use Rattle.ml_kem.specs.Parameters.{Parameters};
+ghost use Rattle.ml_kem.specs.Parameters.{IsSet, Parameters};
+ghost use Rattle.decryption_noise.specs.Noise.{AllInside, honest_coins, noise_of};
 ghost use Rattle.hpke.specs.Mask.{mask_decap, mask_encap, mask_public};
 ghost use Rattle.hpke.specs.Schedule.{KdfAlgorithm, AeadAlgorithm, Suite};
 ghost use Rattle.kem_mail.specs.Mail.{Opener, OpenMeaning, Opens, OpensByKey, IsVerdict, SameBodies, Verdict, opener_of};
@@ -53,4 +54,15 @@ pub fn sealed_text_opens<A: Aead>()
     ensures mask { (suite : Suite) (info sk draw : List ℕ) (messages : List (List ℕ)) (text rest : List ℕ) (budget : ℕ) → length draw ≡ 32
         → SenderText (sealer_of suite info (mask_encap (mask_public sk) None) A.AeadImpl.seal_of) messages draw text → length text ≤ budget
         → Opens (opener_of suite info 32 (mask_decap sk None) A.AeadImpl.open_of) (text ++ rest) budget (Ok messages) }
+{}
+
+/// An honest mail opens: a text that a sender wrote to the key of a seed, by 32 bytes for which all of the
+/// noise of the decryption is inside its intervals, opens to exactly the sender's messages, whatever stands
+/// behind it, within a budget that holds it.
+pub fn honest_mail_opens<A: Aead>()
+    ensures { (set : Parameters) (family : Family) (kdf : KdfAlgorithm) (aead : AeadAlgorithm) (seed info : List ℕ) (key : Key)
+        (messages : List (List ℕ)) (m text rest : List ℕ) (budget : ℕ) → IsSet set → key_of set family seed ≡ Some key → AreBytes 32 m
+        → AllInside m (noise_of set family key m (honest_coins family key.ek m))
+        → SenderText (lattice_sealer set family kdf aead A.AeadImpl.seal_of key.ek info) messages m text → length text ≤ budget
+        → OpensByKey set family kdf aead A.AeadImpl.open_of seed info (text ++ rest) budget (Ok messages) }
 {}
