@@ -1,1 +1,4 @@
 pub mod Commands
+pub mod Exchanges
+pub mod Handling
+pub mod Passing

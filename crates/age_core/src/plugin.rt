@@ -1,6 +1,8 @@
 //! The plugin protocol: phases of stanzas between two sides.
 
+mod bidir;
 mod connection;
+mod reply;
 mod sending;
 #[cfg(test)]
 mod tests;
@@ -8,7 +10,9 @@ mod unidir;
 
 pub use age_format::{PhaseError, StanzaReader};
 pub use age_send::{finish_to, send_stanza_to, send_to};
+pub use bidir::Answer;
 pub use connection::Connection;
+pub use reply::{NoCommand, Reply, Response};
 pub use sending::UnidirSend;
 use thiserror::Error;
 pub use unidir::UnidirAnswer;
