@@ -6,4 +6,6 @@ mod mails;
 #[cfg(test)]
 mod runs;
 #[cfg(test)]
+mod seals;
+#[cfg(test)]
 mod tests;

@@ -5,6 +5,7 @@ use crate::runs::{
     COUNTED_RUNS, DONE_INPUT, FAULTY_RUNS, KEYS, MESSAGES_INPUT, NO_COMMANDS, Part, Run,
     ZERO_INPUT, ZERO_MAIL, ZERO_SEED, heads, opened_mails, refusals,
 };
+use crate::seals::{OPENED_SEALS, REFUSED_SEALS, SEALS};
 use age_core::outside::{CleanSource, MemSink, MemSource, Source};
 use hash_families::{AboutModulus, Ones, RepeatingHash, SmallAndFifty, Zeros};
 use hpke::{AesGcm256, Deserializable, HkdfSha256, MaskKem, MaskKey};
@@ -20,6 +21,9 @@ use std::test::Fail;
 
 /// More bytes than any input has.
 const WHOLE: usize = 65536;
+
+/// More writes than a mail of three messages takes.
+const MANY_WRITES: u64 = 100;
 
 /// The command of most runs.
 const OPEN: &str = "open 768 sha256 aes256 65536";
@@ -104,6 +108,39 @@ fn refusals_have_their_answers(rt: HostRuntime) -> Result<(), Fail> {
 #[test]
 fn opened_mails_have_their_answers(rt: HostRuntime) -> Result<(), Fail> {
     compare(&rt, opened_mails())
+}
+
+#[test]
+fn sealed_mails_have_their_text(rt: HostRuntime) -> Result<(), Fail> {
+    compare(&rt, SEALS)
+}
+
+#[test]
+fn sealed_mails_open(rt: HostRuntime) -> Result<(), Fail> {
+    compare(&rt, OPENED_SEALS)
+}
+
+#[test]
+fn inputs_of_seal_have_their_answers(rt: HostRuntime) -> Result<(), Fail> {
+    compare(&rt, REFUSED_SEALS)
+}
+
+/// A fault of the sink while a mail is sealed leaves a front of the mail's text.
+#[test]
+fn a_fault_leaves_a_front_of_the_mail(rt: HostRuntime) -> Result<(), Fail> {
+    let row = &SEALS[0];
+    let mut status = 5;
+    for k in 0..MANY_WRITES {
+        if status == 5 {
+            let mut src = CleanSource::new(input(rt.alloc(), row.input)?);
+            let answer = run(rt.alloc(), row.command, &mut src, &[k])?;
+            assert!(rt; row.output.as_bytes().starts_with(&answer.output));
+            assert_eq!(rt; answer.output.len() == row.output.len(), answer.status == 0);
+            status = answer.status;
+        }
+    }
+    assert_eq!(rt; status, 0);
+    Ok(())
 }
 
 #[test]

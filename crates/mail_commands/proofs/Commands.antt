@@ -10,6 +10,16 @@ two_words f (x ∷ []) a b le lt ea eb = absurd (omega (arith, le))
 two_words f (x ∷ y ∷ []) a b le lt ea eb = rw (ea, eb) refl
 two_words f (x ∷ y ∷ z ∷ xs) a b le lt ea eb = absurd (omega (arith, lt))
 
+-- four words
+pub four_words : {X : Type 0} (f : X → List ℕ) (xs : List X) (a b c d : X) → 4 ≤ length xs → length xs < 5 → a ≡ get_or xs 0 a → b ≡ get_or xs 1 b → c ≡ get_or xs 2 c → d ≡ get_or xs 3 d
+    → map f xs ≡ f a ∷ f b ∷ f c ∷ f d ∷ []
+four_words f [] a b c d le lt ea eb ec ed = absurd (omega (arith, le))
+four_words f (x ∷ []) a b c d le lt ea eb ec ed = absurd (omega (arith, le))
+four_words f (x ∷ y ∷ []) a b c d le lt ea eb ec ed = absurd (omega (arith, le))
+four_words f (x ∷ y ∷ z ∷ []) a b c d le lt ea eb ec ed = absurd (omega (arith, le))
+four_words f (x ∷ y ∷ z ∷ w ∷ []) a b c d le lt ea eb ec ed = rw (ea, eb, ec, ed) refl
+four_words f (x ∷ y ∷ z ∷ w ∷ v ∷ xs) a b c d le lt ea eb ec ed = absurd (omega (arith, lt))
+
 -- five words
 pub five_words : {X : Type 0} (f : X → List ℕ) (xs : List X) (a b c d e : X) → 5 ≤ length xs → length xs < 6 → a ≡ get_or xs 0 a → b ≡ get_or xs 1 b → c ≡ get_or xs 2 c → d ≡ get_or xs 3 d → e ≡ get_or xs 4 e
     → map f xs ≡ f a ∷ f b ∷ f c ∷ f d ∷ f e ∷ []

@@ -1,10 +1,10 @@
 -- The headline, from what is due.
-use Rattle.std.proofs.Common.{◌≡◌, ◌⊎◌, ℕ, List, ◌++◌, Option, Some, None, Ok, Err, refl, sym, subst, ◌∙◌, inl, inr, arith}
+use Rattle.std.proofs.Common.{◌≡◌, ◌⊎◌, ℕ, List, ◌++◌, Option, Some, None, Ok, Err, refl, sym, ap, subst, ◌∙◌, inl, inr, arith}
 use Rattle.std.specs.Prelude.{IfSome}
 use Rattle.kem_hash.specs.Family.{Family}
 use Rattle.age_format.specs.Outside.{Gains}
 use Rattle.mail_commands.specs.Command.{Spells}
-use Rattle.mail_commands.specs.Due.{Due, ComesTo, EndsWith, HoldsMail, IsAnswer, Outcome, outcome_output, outcome_status}
+use Rattle.mail_commands.specs.Due.{Due, ComesTo, EndsWith, HoldsMail, IsAnswer, Outcome, items_output, outcome_output, outcome_status}
 use Rattle.mail_commands.specs.Lines.{lines}
 use Rattle.mail_commands.specs.declared.command.Command.{Command}
 use Rattle.mail_commands.specs.declared.command.Command.TheVariants.{Open}
@@ -21,8 +21,8 @@ for_both (Some text) P Q R h k f = f text h k
 
 module _ (family : Family) (words : List (List ℕ)) where
   -- status 0 is due for messages alone
-  items_of_outcome : (command : Command) (text : List ℕ) (o : Outcome) (output : List ℕ) → 0 ≡ outcome_status o → output ≡ outcome_output o → EndsWith family command text o
-      → (items : List (List ℕ)) × ComesTo family command text (Ok items) × (output ≡ lines items)
+  items_of_outcome : (command : Command) (text : List ℕ) (o : Outcome) (output : List ℕ) → 0 ≡ outcome_status o → output ≡ outcome_output command o → EndsWith family command text o
+      → (items : List (List ℕ)) × ComesTo family command text (Ok items) × (output ≡ items_output command items)
   items_of_outcome command text (Ok items) output is told ends = (items, ends, told)
   items_of_outcome command text (Err (Mail NoMemory)) output is told ends = absurd (cc is)
   items_of_outcome command text (Err (Mail ReadFault)) output is told ends = absurd (cc is)
@@ -31,7 +31,8 @@ module _ (family : Family) (words : List (List ℕ)) where
   module _ (suite : SuiteName) (budget : ℕ) (spelled : Spells words (Open suite budget)) where
     due_messages : (text : List ℕ) (status : ℕ) (output : List ℕ) → status ≡ 0 → Due family words text status output → (messages : List (List ℕ)) × HoldsMail family suite budget text messages × (output ≡ lines messages)
     due_messages text status output zero (inl d) =
-        items_of_outcome (Open suite budget) text d.outcome output (sym zero ∙ d.status_is) d.output_is (subst (λ (c : Command). EndsWith family c text d.outcome) (one_command words d.command (Open suite budget) d.spelled spelled) d.ends_with)
+        let same = one_command words d.command (Open suite budget) d.spelled spelled in
+        items_of_outcome (Open suite budget) text d.outcome output (sym zero ∙ d.status_is) (d.output_is ∙ ap (λ (c : Command). outcome_output c d.outcome) same) (subst (λ (c : Command). EndsWith family c text d.outcome) same d.ends_with)
     due_messages text status output zero (inr d) = absurd (let is = d.status_is in omega (arith, is, zero))
 
     messages_due : (text : List ℕ) (messages : List (List ℕ)) → HoldsMail family suite budget text messages → Due family words text 0 (lines messages)

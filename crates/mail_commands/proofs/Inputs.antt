@@ -1,23 +1,23 @@
 -- Inputs: which texts are whole ones, parts of one, or begin none.
 use Rattle.std.proofs.Common.{◌≡◌, ◌≢◌, ℕ, zero, suc, ◌+◌, ◌*◌, ◌-◌, ◌%◌, ◌<◌, ◌≤◌, true, false, List, [], ◌∷◌, ◌++◌, length, take, drop, get_or, Option, Some, None, Result, Ok, Err, ◌⊎◌, inl, inr, refl, sym, ap, subst, ◌∙◌, arith, append_assoc}
-use Rattle.std.proofs.lemmas.List.{append-nil, length-append, length_push, take-append-drop, take_at, take-append-le, length-take-le, take-take, take_more, drop_more}
+use Rattle.std.proofs.lemmas.List.{append-nil, length-append, length_push, nil_from_length, take-append-drop, take_at, take-append-le, length-take-le, take-take, take_more, drop_more}
 use Rattle.std.proofs.Math.Seq.{take-append-add}
 use Rattle.std.proofs.lemmas.List.Elements.{recursion_from_All, All-from_recursion}
 use Rattle.std.proofs.lemmas.Bool.{cases_eq, cases_lt, cases_Bool}
 use Rattle.std.specs.List.{AllPass, AllByRecursion}
 use Rattle.hex.specs.Hex.{decode_of, is_hex_digit}
 use Rattle.hex.proofs.HexLemmas.{decode_of-ok, decode_of-digits, decode_of-same}
+use Rattle.mail_commands.specs.Due.{IsInput}
+use Rattle.mail_commands.specs.declared.command.Command.{Command}
+use Rattle.mail_commands.specs.declared.command.Command.TheVariants.{Open, Key, Seal}
 use Rattle.mail_commands.specs.Input.{IsLine, IsLineText, IsHead, IsHeadText, IsPart, BeginsNone, FailsAt}
 use Rattle.std.specs.Prelude.{IfSome, IfOk, IfErr}
 use Rattle.std.specs.Char.{is_ascii_hexdigit}
-use Rattle.mail_commands.specs.Due.{IsInput}
 use Rattle.kem_mail.specs.Taken.{Lost}
 use Rattle.mail_commands.specs.Taken.{StopsWithin, InputTakes}
-use Rattle.mail_commands.specs.private.InputParts.{InputTaken, behind}
-use Rattle.mail_commands.specs.declared.command.Command.{Command}
-use Rattle.mail_commands.specs.declared.command.Command.TheVariants.{Open, Key}
+use Rattle.mail_commands.specs.private.InputParts.{InputTaken, LineOrEnd, behind}
 use Rattle.mail_commands.specs.declared.error.RunError.{RunError}
-use Rattle.mail_commands.specs.declared.error.RunError.TheVariants.{Place, Ended, Mail}
+use Rattle.mail_commands.specs.declared.error.RunError.TheVariants.{Place, Ended, InvalidKey, Mail}
 use Rattle.kem_mail.specs.declared.error.MailError.TheVariants.{NoMemory, ReadFault}
 
 -- ---- digits
@@ -37,21 +37,21 @@ feed_is_no_digit : is_hex_digit 10 ≢ true
 feed_is_no_digit e = cc
 
 -- so many zeros
-zeros : ℕ → List ℕ
+pub zeros : ℕ → List ℕ
 zeros zero = []
 zeros (suc n) = 48 ∷ zeros n
 
-length-zeros : (n : ℕ) → length (zeros n) ≡ n
+pub length-zeros : (n : ℕ) → length (zeros n) ≡ n
 unfolding zeros
 length-zeros zero = refl
 length-zeros (suc n) = let e = length-zeros n in omega (arith, e)
 
-Digits-zeros : (n : ℕ) → Digits (zeros n)
+pub Digits-zeros : (n : ℕ) → Digits (zeros n)
 unfolding zeros
 Digits-zeros zero = tt
 Digits-zeros (suc n) = (refl, Digits-zeros n)
 
-tails : (x y : ℕ) (xs ys : List ℕ) → x ∷ xs ≡ y ∷ ys → (x ≡ y) × (xs ≡ ys)
+pub tails : (x y : ℕ) (xs ys : List ℕ) → x ∷ xs ≡ y ∷ ys → (x ≡ y) × (xs ≡ ys)
 tails x y xs ys e = (cc, cc)
 
 -- a text has one first line of digits
@@ -146,7 +146,7 @@ module _ (least most : ℕ) where
 -- ---- inputs of any kind
 
 -- one of two splits of a text comes first
-split_either : (a b c d : List ℕ) → a ++ b ≡ c ++ d → ((m : List ℕ) × (a ≡ c ++ m) × (d ≡ m ++ b)) ⊎ ((m : List ℕ) × (c ≡ a ++ m) × (b ≡ m ++ d))
+pub split_either : (a b c d : List ℕ) → a ++ b ≡ c ++ d → ((m : List ℕ) × (a ≡ c ++ m) × (d ≡ m ++ b)) ⊎ ((m : List ℕ) × (c ≡ a ++ m) × (b ≡ m ++ d))
 split_either a b [] d e = inl (a, refl, sym e)
 split_either [] b (y ∷ ys) d e = inr (y ∷ ys, refl, e)
 split_either (x ∷ xs) b (y ∷ ys) d e =
@@ -157,7 +157,7 @@ split_either (x ∷ xs) b (y ∷ ys) d e =
     ]
 
 -- nothing joined is nothing
-nil_right : (a b : List ℕ) → a ++ b ≡ [] → b ≡ []
+pub nil_right : (a b : List ℕ) → a ++ b ≡ [] → b ≡ []
 nil_right [] b e = e
 nil_right (x ∷ xs) b e = cc e
 
@@ -278,6 +278,33 @@ module _ (before mid now : Option (List ℕ)) (least most : ℕ) (ds : List ℕ)
       Lost_then before mid now (λ bytes. bytes ≡ ds) (λ bytes. bytes ≡ b ∷ []) (λ bytes. (length bytes ≡ length ds + 1) × FailsAt (IsLineText least most) bytes (length ds)) l r (λ a c p q.
       let none = BeginsNone-digits least most ds b (recursion_from_All (λ c. is_hex_digit c ≡ true) ds all) stop no_end in
       rw (p, q) (length_push ds b, FailsAt-parts (IsLineText least most) ds b [] part none))
+
+-- no byte came behind these digits: none of them is no line, and else the line is refused
+pub line_stopped : (X : Type 0) (items : X → List ℕ) (r : Result (Option X) RunError) (before mid now : Option (List ℕ)) (least most : ℕ) (ds : List ℕ) (count : ℕ) (e : RunError) → least ≤ most → most % 2 ≡ 0 → length ds ≤ most → AllPass is_hex_digit ds
+    → count ≡ length ds → Lost before mid (λ bytes. bytes ≡ ds) → Lost mid now (λ bytes. bytes ≡ []) → (e ≡ Ended) ⊎ (e ≡ Mail ReadFault)
+    → IfOk r (λ line. (line ≡ None) × (count ≡ 0) × (e ≡ Ended)) → IfErr r (λ error. (error ≡ e) × (e ≡ Ended → count ≡ 0 → ⊥)) → Lost before now (LineOrEnd least most items r)
+line_stopped X items (Ok line) before mid now least most ds count e range even short all long l r refused none other =
+    rw none.0 (Lost_then before mid now (λ t. t ≡ ds) (λ t. t ≡ []) (λ t. t ≡ []) l r (λ a b p q.
+    let empty = nil_from_length ds (omega (arith, long, none.1)) in cc (p, q, empty)))
+line_stopped X items (Err error) before mid now least most ds count e range even short all long l r refused none other =
+    rw other.0 (Lost_then before mid now (λ t. t ≡ ds) (λ t. t ≡ []) (λ t. InputTakes (IsLineText least most) e t × (e ≡ Ended → t ≢ [])) l r (λ a b p q.
+    let whole : ds ≡ a ++ b = sym (cc (p, q, append-nil a)) in
+    let here : IsPart (IsLineText least most) (a ++ b) = subst (IsPart (IsLineText least most)) whole (IsPart-digits least most ds range even short (recursion_from_All (λ c. is_hex_digit c ≡ true) ds all)) in
+    let some : e ≡ Ended → a ++ b ≢ [] = λ is empty. (let len = ap length (whole ∙ empty) in other.1 is (omega (arith, long, len))) in
+    (part_or_fault e (a ++ b) refused here, some)))
+  where
+    part_or_fault : (e : RunError) (t : List ℕ) → (e ≡ Ended) ⊎ (e ≡ Mail ReadFault) → IsPart (IsLineText least most) t → InputTakes (IsLineText least most) e t
+    part_or_fault e t (inl ended) part = rw ended part
+    part_or_fault e t (inr failed) part = rw failed (inr (refl, part))
+
+-- a line that is refused for another cause
+pub line_refused : (X : Type 0) (items : X → List ℕ) (before now : Option (List ℕ)) (least most : ℕ) (e : RunError) → Lost before now (InputTakes (IsLineText least most) e) → e ≢ Ended → Lost before now (LineOrEnd {X = X} least most items (Err e))
+line_refused X items before now least most e l other = Lost_weaker before now (InputTakes (IsLineText least most) e) (λ t. InputTakes (IsLineText least most) e t × (e ≡ Ended → t ≢ [])) l (λ a t. (t, λ is. absurd (other is)))
+
+-- the source had ended in front of a line
+pub line_missing : (X : Type 0) (Holds : List ℕ → X → Type 0) (before now : Option (List ℕ)) (least most : ℕ) → least ≤ most → most % 2 ≡ 0 → Lost before now (λ bytes. bytes ≡ []) → Lost before now (InputTaken (IsLineText least most) Holds (Err Ended))
+line_missing X Holds before now least most range even l =
+    Lost_weaker before now (λ t. t ≡ []) (IsPart (IsLineText least most)) l (λ a e. rw e (IsPart-digits least most [] range even (omega arith) tt))
 
 -- the line feed, and what the digits before it decode to
 pub line_decoded : (X : Type 0) (items : X → List ℕ) (r : Result X RunError) (before mid now : Option (List ℕ)) (least most : ℕ) (ds : List ℕ) → least ≤ most → most % 2 ≡ 0 → length ds ≤ most → AllPass is_hex_digit ds
@@ -435,6 +462,7 @@ module _ (X Y : Type 0) (Holds : List ℕ → X → Type 0) (Heads : List ℕ �
   taken_first : (e : RunError) (bytes : List ℕ) → InputTaken IsFirst Holds (Err e) bytes → InputTaken IsHeadText Heads (Err e) bytes
   taken_first (Place place) bytes t = (t.0, FailsAt-first bytes place t.1)
   taken_first Ended bytes t = IsPart-first bytes t
+  taken_first InvalidKey bytes t = t
   taken_first (Mail error) bytes (inl (e, stops)) = inl (e, λ n lt. IsPart-first (take n bytes) (stops n lt))
   taken_first (Mail error) bytes (inr (e, part)) = inr (e, IsPart-first bytes part)
 
@@ -442,6 +470,7 @@ module _ (X Y : Type 0) (Holds : List ℕ → X → Type 0) (Heads : List ℕ �
   taken_second (Place place) first bytes line t =
       (omega (arith, t.0, length-append first bytes, length-first first line.0 line.1), FailsAt-second first bytes place line t.1)
   taken_second Ended first bytes line t = IsPart-second first bytes line t
+  taken_second InvalidKey first bytes line t = t
   taken_second (Mail error) first bytes line (inl (e, stops)) = inl (e, StopsWithin-second first bytes line stops)
   taken_second (Mail error) first bytes line (inr (e, part)) = inr (e, IsPart-second first bytes line part)
 
@@ -603,12 +632,13 @@ some_head text =
 
 -- ---- the inputs of a command
 
--- no input of a command begins another
-pub one_input_end : (command : Command) → NoneBeginsAnother (IsInput command)
-one_input_end (Open suite budget) = one_head_end
-one_input_end (Key set) = one_line_end 128 128
+-- a command of whose inputs none begins another
+abbrev pub IsAlone : Command → Type 0
+IsAlone (Seal suite) = ⊥
+IsAlone command = Unit {0}
 
--- what stands at the front of a text, of a command's inputs
-pub some_input : (command : Command) (text : List ℕ) → Stands (IsInput command) text
-some_input (Open suite budget) text = some_head text
-some_input (Key set) text = some_line 128 128 (omega arith) refl text
+-- no input of such a command begins another
+pub one_input_end : (command : Command) → IsAlone command → NoneBeginsAnother (IsInput command)
+one_input_end (Open suite budget) is = one_head_end
+one_input_end (Key set) is = one_line_end 128 128
+one_input_end (Seal suite) is = absurd is

@@ -1,7 +1,11 @@
 pub mod Writes
 pub mod Commands
 pub mod Inputs
+pub mod Joins
+pub mod SealInputs
+pub mod SealKeys
 pub mod Runs
 pub mod Dues
+pub mod Sealings
 pub mod Tellings
 pub mod Headlines

@@ -1,13 +1,14 @@
 -- The commands, the words that spell them, and the algorithms that the words name.
 use Rattle.std.specs.Prelude.{◌≡◌, ℕ, ◌≤◌, List, [], ◌∷◌, codes, decimal}
-use Rattle.gcm_core.specs.Gcm.{open_of}
+use Rattle.gcm_core.specs.Gcm.{open_of, seal_of}
 use Rattle.sha2.specs.Sha256.{sha256}
 use Rattle.sha2.specs.Sha512.{sha384, sha512}
 use Rattle.ml_kem.specs.Parameters.{Parameters, ml_kem_512, ml_kem_768, ml_kem_1024}
 use Rattle.hpke.specs.Schedule.{KdfAlgorithm, AeadAlgorithm}
 use Rattle.kem_mail.specs.Mail.{OpenMeaning}
+use Rattle.kem_mail.specs.Sealing.{SealMeaning}
 use Rattle.mail_commands.specs.declared.command.Command.{Command}
-use Rattle.mail_commands.specs.declared.command.Command.TheVariants.{Open, Key}
+use Rattle.mail_commands.specs.declared.command.Command.TheVariants.{Open, Key, Seal}
 use Rattle.mail_commands.specs.declared.command.SetName.{SetName}
 use Rattle.mail_commands.specs.declared.command.SetName.TheVariants.{Set512, Set768, Set1024}
 use Rattle.mail_commands.specs.declared.command.KdfName.{KdfName}
@@ -52,11 +53,17 @@ abbrev pub aead_open : AeadName → OpenMeaning
 aead_open Aes128 = open_of
 aead_open Aes256 = open_of
 
+-- what an AEAD seals a text to, by the same (section 7.1)
+abbrev pub aead_seal : AeadName → SealMeaning
+aead_seal Aes128 = seal_of
+aead_seal Aes256 = seal_of
+
 -- the words of a command; a budget is a decimal number without a leading zero
 abbrev pub words_of : Command → List (List ℕ)
 words_of (Open suite budget) =
     codes "open" ∷ set_word suite.set ∷ kdf_word suite.kdf ∷ aead_word suite.aead ∷ decimal budget ∷ []
 words_of (Key set) = codes "key" ∷ set_word set ∷ []
+words_of (Seal suite) = codes "seal" ∷ set_word suite.set ∷ kdf_word suite.kdf ∷ aead_word suite.aead ∷ []
 
 -- the most bytes of a mail that a command may ask to be read
 abbrev pub greatest_budget : ℕ
@@ -66,6 +73,12 @@ greatest_budget = 16777216
 abbrev pub IsCommand : Command → Type 0
 IsCommand (Open suite budget) = (1 ≤ budget) × (budget ≤ greatest_budget)
 IsCommand (Key set) = Unit {0}
+IsCommand (Seal suite) = Unit {0}
+
+-- the word of a command's input, in the lines of its faults
+abbrev pub input_word : Command → List ℕ
+input_word (Seal suite) = codes "input"
+input_word command = codes "head"
 
 -- the words spell this command
 pub record Spells (words : List (List ℕ)) (command : Command) : Type 0 where

@@ -1,5 +1,5 @@
 -- The inputs of the commands: lines of hexadecimal digits of either case.
-use Rattle.std.specs.Prelude.{◌≡◌, ◌≢◌, ℕ, ◌+◌, ◌<◌, ◌≤◌, List, [], ◌∷◌, ◌++◌, length, take, Ok}
+use Rattle.std.specs.Prelude.{◌≡◌, ◌≢◌, ℕ, ◌+◌, ◌*◌, ◌<◌, ◌≤◌, List, [], ◌∷◌, ◌++◌, length, take, Ok}
 use Rattle.hex.specs.Hex.{decode_of}
 
 -- a line of digits that spells these bytes: from `least` to `most` digits, and a line feed
@@ -17,6 +17,18 @@ seed_digits = 128
 -- the most digits that spell an info
 abbrev pub most_info_digits : ℕ
 most_info_digits = 8192
+
+-- how many digits spell the seed of a random source, of 32 bytes
+abbrev pub source_digits : ℕ
+source_digits = 64
+
+-- the most digits that spell a message
+abbrev pub most_message_digits : ℕ
+most_message_digits = 65536
+
+-- the most messages of an input
+abbrev pub most_messages : ℕ
+most_messages = 4096
 
 -- the line of a seed
 abbrev pub IsSeedLine : List ℕ → List ℕ → Type 0
@@ -42,6 +54,32 @@ pub record IsHead (text seed info : List ℕ) : Type 0 where
 abbrev pub IsHeadText : List ℕ → Type 0
 IsHeadText text = (seed info : List ℕ) × IsHead text seed info
 
+-- a line for each message, in order: an even number of digits
+abbrev pub IsMessageLines : List ℕ → List (List ℕ) → Type 0
+IsMessageLines text [] = text ≡ []
+IsMessageLines text (message ∷ messages) = (line rest : List ℕ) × (text ≡ line ++ rest) × IsLine 0 most_message_digits line message × IsMessageLines rest messages
+
+-- the lines of so many messages at most
+abbrev pub IsMessages : ℕ → List ℕ → List (List ℕ) → Type 0
+IsMessages most text messages = IsMessageLines text messages × (length messages ≤ most)
+
+-- The input of `seal`: the line of an encapsulation key of this size, the line of an info, the line of the
+-- seed of a random source, and the lines of the messages.
+pub record IsSealInput (key_size : ℕ) (text key info source : List ℕ) (messages : List (List ℕ)) : Type 0 where
+  pub first : List ℕ
+  pub second : List ℕ
+  pub third : List ℕ
+  pub others : List ℕ
+  pub whole : text ≡ first ++ (second ++ (third ++ others))
+  pub key_line : IsLine (2 * key_size) (2 * key_size) first key
+  pub info_line : IsInfoLine second info
+  pub source_line : IsLine source_digits source_digits third source
+  pub message_lines : IsMessages most_messages others messages
+
+-- an input of `seal`, whatever it holds
+abbrev pub IsSealText : ℕ → List ℕ → Type 0
+IsSealText key_size text = (key info source : List ℕ) × (messages : List (List ℕ)) × IsSealInput key_size text key info source messages
+
 -- inputs of a kind: `IsInput text` says that the text is a whole one
 module _ (IsInput : List ℕ → Type 0) where
   -- the text is a proper prefix of an input
@@ -57,4 +95,19 @@ module _ (IsInput : List ℕ → Type 0) where
   pub record FailsAt (text : List ℕ) (place : ℕ) : Type 0 where
     pub within : place < length text
     pub part : IsPart (take place text)
+    pub fails : BeginsNone (take (place + 1) text)
+
+  -- the text is a prefix of an input, which may be whole
+  abbrev pub Begins : List ℕ → Type 0
+  Begins text = (more : List ℕ) × IsInput (text ++ more)
+
+  -- the text ends inside an input: it begins one, and is none
+  abbrev pub EndsInside : List ℕ → Type 0
+  EndsInside text = Begins text × (IsInput text → ⊥)
+
+  -- The same of inputs of which one may begin another: the bytes before this place begin an input, and may be
+  -- one, and with what stands there they begin none.
+  pub record StopsAt (text : List ℕ) (place : ℕ) : Type 0 where
+    pub within : place < length text
+    pub begins : Begins (take place text)
     pub fails : BeginsNone (take (place + 1) text)

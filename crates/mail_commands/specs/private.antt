@@ -2,7 +2,11 @@
 
 -- the bytes and the lines of an input
 pub mod InputParts
+-- the parts of the input of `seal`
+pub mod SealParts
 -- the mail behind a head, by the names of a suite
 pub mod Opening
+-- the mail that `seal` writes, by the names of a suite
+pub mod Sealing
 -- what is held for a sink, and what was told to one
 pub mod Telling

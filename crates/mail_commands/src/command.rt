@@ -47,6 +47,8 @@ pub enum Command {
     Open(SuiteName, u64),
     /// Writes the encapsulation key of a seed.
     Key(SetName),
+    /// Seals a mail of a suite.
+    Seal(SuiteName),
 }
 
 // The parameter set of a word.
@@ -116,17 +118,35 @@ fn key_command(set: &str) -> Option<Command>
     Some(Command::Key(set))
 }
 
+// The suite of a set, a KDF and an AEAD.
+fn suite_named(set: &str, kdf: &str, aead: &str) -> Option<SuiteName>
+    ensures found { IfSome result (λ suite. (set.now ≡ set_word suite.set) × (kdf.now ≡ kdf_word suite.kdf) × (aead.now ≡ aead_word suite.aead)) }
+    ensures none { IfNone result ((suite : SuiteName) → set.now ≡ set_word suite.set → kdf.now ≡ kdf_word suite.kdf → aead.now ≡ aead_word suite.aead → ⊥) }
+{
+    let set = set_named(set)?;
+    let kdf = kdf_named(kdf)?;
+    let aead = aead_named(aead)?;
+    Some(SuiteName { set, kdf, aead })
+}
+
+// The command that seals a mail, with these words behind its own.
+fn seal_command(set: &str, kdf: &str, aead: &str) -> Option<Command>
+    ensures found { IfSome result (λ command. Spells (codes "seal" ∷ set.now ∷ kdf.now ∷ aead.now ∷ []) command) }
+    ensures none { IfNone result ((command : Command) → Spells (codes "seal" ∷ set.now ∷ kdf.now ∷ aead.now ∷ []) command → ⊥) }
+{
+    let suite = suite_named(set, kdf, aead)?;
+    Some(Command::Seal(suite))
+}
+
 // The command that opens a mail, with these words behind its own.
 fn open_command(set: &str, kdf: &str, aead: &str, budget: &str) -> Option<Command>
     ensures found { IfSome result (λ command. Spells (codes "open" ∷ set.now ∷ kdf.now ∷ aead.now ∷ budget.now ∷ []) command) }
     ensures none { IfNone result ((command : Command)
         → Spells (codes "open" ∷ set.now ∷ kdf.now ∷ aead.now ∷ budget.now ∷ []) command → ⊥) }
 {
-    let set = set_named(set)?;
-    let kdf = kdf_named(kdf)?;
-    let aead = aead_named(aead)?;
+    let suite = suite_named(set, kdf, aead)?;
     let budget = budget_of(budget)?;
-    Some(Command::Open(SuiteName { set, kdf, aead }, budget))
+    Some(Command::Open(suite, budget))
 }
 
 /// The command that words spell.
@@ -136,6 +156,9 @@ pub fn command_of(words: &[String]) -> Option<Command>
 {
     match words {
         [name, set] if name.as_str() == "key" => key_command(set.as_str()),
+        [name, set, kdf, aead] if name.as_str() == "seal" => {
+            seal_command(set.as_str(), kdf.as_str(), aead.as_str())
+        }
         [name, set, kdf, aead, budget] if name.as_str() == "open" => open_command(
             set.as_str(),
             kdf.as_str(),

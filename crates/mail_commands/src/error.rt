@@ -14,6 +14,8 @@ pub enum RunError {
     Place(u64),
     /// The source ended inside the input.
     Ended,
+    /// The key that a mail is to be sealed to is none.
+    InvalidKey,
     /// The mail wasn't opened, or the key wasn't made.
     Mail(MailError),
 }

@@ -7,7 +7,7 @@ ghost use Rattle.kem_hash.specs.Family.{Family};
 ghost use Rattle.age_format.specs.Outside.{Rose, Gains, GainsPart};
 ghost use Rattle.mail_commands.specs.Command.{Spells, words_of, greatest_budget};
 ghost use Rattle.mail_commands.specs.Due.{Due, HoldsMail, IsAnswer};
-ghost use Rattle.mail_commands.specs.Input.{IsHeadText, seed_digits, most_info_digits};
+ghost use Rattle.mail_commands.specs.Input.{IsHeadText, IsSealInput, seed_digits, most_info_digits, source_digits, most_message_digits, most_messages};
 ghost use Rattle.mail_commands.specs.Lines.{lines, error_line, no_command_line};
 ghost use Rattle.kem_mail.specs.Mail.{SameBodies};
 ghost use Rattle.kem_mail.specs.Taken.{Lost};
@@ -46,6 +46,19 @@ pub fn same_bodies()
         → Due family words (head ++ text) status output → Due family others (head ++ other) status output }
 {}
 
+/// An input of `seal` has one reading: it holds one key, one info, one seed of a random source and one list of
+/// messages.
+pub fn one_seal_input()
+    ensures key { (size : ℕ) (text key info source other : List ℕ) (messages : List (List ℕ)) (info_of source_of : List ℕ) (messages_of : List (List ℕ))
+        → IsSealInput size text key info source messages → IsSealInput size text other info_of source_of messages_of → key ≡ other }
+    ensures info { (size : ℕ) (text key info source other : List ℕ) (messages : List (List ℕ)) (key_of source_of : List ℕ) (messages_of : List (List ℕ))
+        → IsSealInput size text key info source messages → IsSealInput size text key_of other source_of messages_of → info ≡ other }
+    ensures source { (size : ℕ) (text key info source other : List ℕ) (messages : List (List ℕ)) (key_of info_of : List ℕ) (messages_of : List (List ℕ))
+        → IsSealInput size text key info source messages → IsSealInput size text key_of info_of other messages_of → source ≡ other }
+    ensures messages { (size : ℕ) (text key info source : List ℕ) (messages other : List (List ℕ)) (key_of info_of source_of : List ℕ)
+        → IsSealInput size text key info source messages → IsSealInput size text key_of info_of source_of other → messages ≡ other }
+{}
+
 /// The words of commands, and the limits of what they read.
 pub fn worked_words()
     ensures smallest { let suite : SuiteName = record { set = SetName.Set512; kdf = KdfName.Sha256; aead = AeadName.Aes128 } in
@@ -55,24 +68,32 @@ pub fn worked_words()
     ensures greatest { let suite : SuiteName = record { set = SetName.Set1024; kdf = KdfName.Sha512; aead = AeadName.Aes256 } in
         words_of (Command.Open suite greatest_budget) ≡ codes "open" ∷ codes "1024" ∷ codes "sha512" ∷ codes "aes256" ∷ codes "16777216" ∷ [] }
     ensures key { words_of (Command.Key SetName.Set768) ≡ codes "key" ∷ codes "768" ∷ [] }
+    ensures seal { let suite : SuiteName = record { set = SetName.Set512; kdf = KdfName.Sha512; aead = AeadName.Aes128 } in
+        words_of (Command.Seal suite) ≡ codes "seal" ∷ codes "512" ∷ codes "sha512" ∷ codes "aes128" ∷ [] }
     ensures budget { greatest_budget ≡ 16777216 }
     ensures seed { seed_digits ≡ 128 }
     ensures info { most_info_digits ≡ 8192 }
+    ensures source { source_digits ≡ 64 }
+    ensures message { most_message_digits ≡ 65536 }
+    ensures messages { most_messages ≡ 4096 }
 {}
 
 /// The lines of a run, each worked by hand.
 pub fn worked_lines()
     ensures items { lines ((0 ∷ 255 ∷ 26 ∷ []) ∷ [] ∷ []) ≡ codes "00ff1a" ++ 10 ∷ 10 ∷ [] }
     ensures no_command { no_command_line ≡ codes "! words" ++ 10 ∷ [] }
-    ensures place { error_line (RunError.Place 128) ≡ codes "! head 128" ++ 10 ∷ [] }
-    ensures ended { error_line RunError.Ended ≡ codes "! head ended" ++ 10 ∷ [] }
-    ensures no_key { error_line (RunError.Mail MailError.XofExhausted) ≡ codes "! XofExhausted" ++ 10 ∷ [] }
-    ensures invalid_data { error_line (RunError.Mail MailError.InvalidData) ≡ codes "! InvalidData" ++ 10 ∷ [] }
-    ensures unexpected_eof { error_line (RunError.Mail MailError.UnexpectedEof) ≡ codes "! UnexpectedEof" ++ 10 ∷ [] }
-    ensures too_much { error_line (RunError.Mail MailError.TooMuch) ≡ codes "! TooMuch" ++ 10 ∷ [] }
-    ensures not_one_kem { error_line (RunError.Mail (MailError.NotOneKem 2)) ≡ codes "! NotOneKem 2" ++ 10 ∷ [] }
-    ensures length { error_line (RunError.Mail (MailError.IncorrectInputLength 1088 7)) ≡ codes "! IncorrectInputLength 1088 7" ++ 10 ∷ [] }
-    ensures open_error { error_line (RunError.Mail (MailError.OpenError 0)) ≡ codes "! OpenError 0" ++ 10 ∷ [] }
+    ensures place { error_line (codes "head") (RunError.Place 128) ≡ codes "! head 128" ++ 10 ∷ [] }
+    ensures ended { error_line (codes "head") RunError.Ended ≡ codes "! head ended" ++ 10 ∷ [] }
+    ensures input_place { error_line (codes "input") (RunError.Place 2369) ≡ codes "! input 2369" ++ 10 ∷ [] }
+    ensures input_ended { error_line (codes "input") RunError.Ended ≡ codes "! input ended" ++ 10 ∷ [] }
+    ensures invalid_key { error_line (codes "input") RunError.InvalidKey ≡ codes "! InvalidKey" ++ 10 ∷ [] }
+    ensures no_key { error_line (codes "head") (RunError.Mail MailError.XofExhausted) ≡ codes "! XofExhausted" ++ 10 ∷ [] }
+    ensures invalid_data { error_line (codes "head") (RunError.Mail MailError.InvalidData) ≡ codes "! InvalidData" ++ 10 ∷ [] }
+    ensures unexpected_eof { error_line (codes "head") (RunError.Mail MailError.UnexpectedEof) ≡ codes "! UnexpectedEof" ++ 10 ∷ [] }
+    ensures too_much { error_line (codes "head") (RunError.Mail MailError.TooMuch) ≡ codes "! TooMuch" ++ 10 ∷ [] }
+    ensures not_one_kem { error_line (codes "head") (RunError.Mail (MailError.NotOneKem 2)) ≡ codes "! NotOneKem 2" ++ 10 ∷ [] }
+    ensures length { error_line (codes "head") (RunError.Mail (MailError.IncorrectInputLength 1088 7)) ≡ codes "! IncorrectInputLength 1088 7" ++ 10 ∷ [] }
+    ensures open_error { error_line (codes "head") (RunError.Mail (MailError.OpenError 0)) ≡ codes "! OpenError 0" ++ 10 ∷ [] }
 {}
 
 /// The headline: an `open` run ends with status 0 only where its source begins with a head and a mail that
@@ -109,7 +130,9 @@ pub fn headline<H: KemHash, S: Source, W: Sink>(
     ensures write_part { IfSome (S.left src.old) (λ text. result ≡ 5 → (status : ℕ) × (output : List ℕ)
         × Due H.family (map string_bytes words.now) text status output × GainsPart (W.got out.old) (W.got out.new) output) }
 
-    ensures memory { result ≡ 6 → Gains (W.got out.old) (W.got out.new) [] }
+    // Nothing was written; `seal` alone may have written a part of what is due.
+    ensures memory { result ≡ 6 → ((suite : SuiteName) → Spells (map string_bytes words.now) (Command.Seal suite) → ⊥)
+        → Gains (W.got out.old) (W.got out.new) [] }
     ensures no_other { IsAnswer result ⊎ ((result ≡ 4) ⊎ ((result ≡ 5) ⊎ (result ≡ 6))) }
     ensures complete { (suite : SuiteName) (budget : ℕ) → Spells (map string_bytes words.now) (Command.Open suite budget)
         → IfSome (S.left src.old) (λ text. (messages : List (List ℕ)) → HoldsMail H.family suite budget text messages

@@ -9,5 +9,7 @@ mod lines;
 mod list;
 mod pending;
 mod run;
+mod seal_input;
+mod sealing;
 
 pub use run::mail_main;

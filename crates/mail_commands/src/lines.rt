@@ -1,11 +1,13 @@
 //! Lines that a run writes. No call takes memory.
 
-ghost use Rattle.std.specs.Prelude.{◌≡◌, ◌≤◌, ◌∷◌, ◌++◌, [], length, decimal};
+ghost use Rattle.std.specs.Prelude.{◌≡◌, ◌≤◌, ◌∷◌, ◌++◌, [], length, codes, decimal};
 ghost use Rattle.hex.specs.Hex.{encode_lower};
 ghost use Rattle.age_format.specs.Outside.{Writes};
+ghost use Rattle.mail_commands.specs.Command.{input_word};
 ghost use Rattle.mail_commands.specs.Lines.{lines, spaced, fault_line, error_line};
 ghost use Rattle.mail_commands.specs.private.Telling.{Passes};
 
+use crate::command::Command;
 use crate::error::RunError;
 use crate::list::ItemList;
 use crate::pending::{PIECE, Pending};
@@ -84,20 +86,42 @@ pub fn write_fault_line<W: Sink>(out: &mut W, name: &[u8], numbers: &[u64]) -> R
     write_all(out, b"\n")
 }
 
-/// Writes the line of why a run wrote no items: nothing for want of memory and for a fault of the source.
-pub fn write_error<W: Sink>(out: &mut W, error: RunError) -> Result<(), Failed>
-    ensures { Writes W.got W.faults W.plan out.old out.new result (error_line error) }
+// The word of a command's input.
+fn input_name(command: Command) -> &'static [u8]
+    ensures { result.now ≡ input_word command }
+{
+    match command {
+        Command::Open(..) | Command::Key(_) => b"head",
+        Command::Seal(_) => b"input",
+    }
+}
+
+// The words of a command's input that has ended too early.
+fn ended_name(command: Command) -> &'static [u8]
+    ensures { result.now ≡ input_word command ++ codes " ended" }
+{
+    match command {
+        Command::Open(..) | Command::Key(_) => b"head ended",
+        Command::Seal(_) => b"input ended",
+    }
+}
+
+/// Writes the line of why a run of a command wrote no items: nothing for want of memory and for a fault of the
+/// source.
+pub fn write_error<W: Sink>(out: &mut W, command: Command, error: RunError) -> Result<(), Failed>
+    ensures { Writes W.got W.faults W.plan out.old out.new result (error_line (input_word command) error) }
 {
     match error {
-        RunError::Place(place) => write_fault_line(out, b"head", &[place]),
-        RunError::Ended => write_fault_line(out, b"head ended", &[]),
-        RunError::Mail(error) => write_mail_error(out, error),
+        RunError::Place(place) => write_fault_line(out, input_name(command), &[place]),
+        RunError::Ended => write_fault_line(out, ended_name(command), &[]),
+        RunError::InvalidKey => write_fault_line(out, b"InvalidKey", &[]),
+        RunError::Mail(error) => write_mail_error(out, command, error),
     }
 }
 
 // The same of what is wrong with a mail.
-fn write_mail_error<W: Sink>(out: &mut W, error: MailError) -> Result<(), Failed>
-    ensures { Writes W.got W.faults W.plan out.old out.new result (error_line (RunError.Mail error)) }
+fn write_mail_error<W: Sink>(out: &mut W, command: Command, error: MailError) -> Result<(), Failed>
+    ensures { Writes W.got W.faults W.plan out.old out.new result (error_line (input_word command) (RunError.Mail error)) }
 {
     match error {
         MailError::NoMemory => Ok(()),

@@ -4,25 +4,29 @@ ghost use Rattle.std.specs.Prelude.{◌≡◌, ◌≢◌, ◌≤◌, ◌⊎◌, 
 ghost use Rattle.std.specs.String.{string_bytes};
 ghost use Rattle.age_format.specs.Outside.{Rose, Gains, GainsPart};
 ghost use Rattle.ml_kem.specs.Keys.{key_of};
-ghost use Rattle.mail_commands.specs.Command.{Spells, parameters, kdf_algorithm, aead_algorithm, aead_open};
-ghost use Rattle.mail_commands.specs.Due.{Due, IsAnswer, Outcome, key_verdict, outcome_status, outcome_output};
+ghost use Rattle.mail_commands.specs.Command.{Spells, parameters, kdf_algorithm, aead_algorithm, aead_open, input_word};
+ghost use Rattle.mail_commands.specs.Due.{Due, IsAnswer, key_verdict, outcome_status};
 ghost use Rattle.mail_commands.specs.Lines.{lines, error_line, no_command_line};
 ghost use Rattle.kem_mail.specs.Mail.{Verdict};
 ghost use Rattle.kem_mail.specs.Taken.{Lost};
 ghost use Rattle.mail_commands.specs.Taken.{MostTakes, Takes};
-ghost use Rattle.mail_commands.specs.Run.{CameTo, IsTold};
+ghost use Rattle.mail_commands.specs.Run.{CameTo, IsTold, Ran};
 ghost use Rattle.kem_mail.specs.private.Answers.{Judges};
 ghost use Rattle.mail_commands.specs.private.Opening.{IsOpened};
+ghost use Rattle.mail_commands.specs.private.Sealing.{IsSealTold};
+ghost use Rattle.mail_commands.specs.private.Telling.{lines_output};
 
 use crate::command::{AeadName, Command, KdfName, SetName, SuiteName, command_of};
 use crate::error::RunError;
 use crate::input::{Head, next_head, next_seed};
 use crate::lines::{write_error, write_fault_line, write_lines};
 use crate::list::ItemList;
+use crate::seal_input::next_seal_input;
+use crate::sealing::{SealFault, key_size, seal_suite};
 use age_format::outside::{Failed, Sink, Source};
 use hpke::{AesGcm128, AesGcm256, HkdfSha256, HkdfSha384, HkdfSha512, Kdf};
 use kem_hash::KemHash;
-use kem_mail::{MailError, MessageList, open_mail};
+use kem_mail::{MailError, MessageList, SealMailError, open_mail};
 use ml_kem::{DecapsulationKey, MlKem512, MlKem768, MlKem1024, ParameterSet, Seed};
 use std::alloc::Global;
 
@@ -126,55 +130,125 @@ fn public_key_of<H: KemHash>(alloc: Global, set: SetName, seed: &Seed) -> Result
     }
 }
 
-// What a command ends with: the items that it writes, or why it writes none.
-fn items_of<H: KemHash, S: Source>(
+// What `open` ends with: the messages of the mail, or why there are none.
+fn opened_items<H: KemHash, S: Source>(
     alloc: Global,
-    command: Command,
+    suite: SuiteName,
+    budget: u64,
     src: &mut S,
 ) -> Result<ItemList, RunError>
-    ensures came { CameTo H.family command (S.left src.old) (S.left src.new) (S.faults src.old) (S.faults src.new) result }
+    ensures came { CameTo H.family (Command.Open suite budget) (S.left src.old) (S.left src.new) (S.faults src.old) (S.faults src.new) result }
     ensures faults { S.faults src.old ≤ S.faults src.new }
 {
-    match command {
-        Command::Open(suite, budget) => {
-            let head = next_head(alloc, src)?;
-            let messages = open_suite::<H, S>(alloc, suite, &head, src, budget)?;
-            Ok(ItemList::from_messages(messages))
-        }
-        Command::Key(set) => {
-            let seed = next_seed(alloc, src)?;
-            let key = public_key_of::<H>(alloc, set, &seed)?;
-            let mut items = ItemList::new(alloc);
-            items.push(key)?;
-            Ok(items)
-        }
-    }
+    let head = next_head(alloc, src)?;
+    let messages = open_suite::<H, S>(alloc, suite, &head, src, budget)?;
+    Ok(ItemList::from_messages(messages))
 }
 
-// Answers the status of a run that wrote no items, and writes the line that is due for it.
-fn refuse<W: Sink>(out: &mut W, error: RunError) -> u8
-    ensures { IsTold W.got W.faults W.plan out.old out.new result (outcome_status (Err error)) (error_line error) }
+// What `key` ends with: the encapsulation key, or why there is none.
+fn key_items<H: KemHash, S: Source>(
+    alloc: Global,
+    set: SetName,
+    src: &mut S,
+) -> Result<ItemList, RunError>
+    ensures came { CameTo H.family (Command.Key set) (S.left src.old) (S.left src.new) (S.faults src.old) (S.faults src.new) result }
+    ensures faults { S.faults src.old ≤ S.faults src.new }
+{
+    let seed = next_seed(alloc, src)?;
+    let key = public_key_of::<H>(alloc, set, &seed)?;
+    let mut items = ItemList::new(alloc);
+    items.push(key)?;
+    Ok(items)
+}
+
+// Answers the status of a run of a command that wrote no items, and writes the line that is due for it.
+fn refuse<W: Sink>(out: &mut W, command: Command, error: RunError) -> u8
+    ensures { IsTold W.got W.faults W.plan out.old out.new result (outcome_status (Err error)) (error_line (input_word command) error) }
 {
     match error {
         RunError::Mail(MailError::NoMemory) => NO_MEMORY,
         RunError::Mail(MailError::ReadFault) => READ_FAULT,
-        other => match write_error(out, other) {
+        other => match write_error(out, command, other) {
             Ok(()) => REFUSED,
             Err(Failed) => WRITE_FAULT,
         },
     }
 }
 
-// Writes what a command ended with, and answers the status of the run.
-fn tell<W: Sink>(out: &mut W, outcome: Result<ItemList, RunError>) -> u8
-    ensures { IsTold W.got W.faults W.plan out.old out.new result (outcome_status outcome) (outcome_output outcome) }
+// Writes the lines of what a command ended with, and answers the status of the run.
+fn tell<W: Sink>(out: &mut W, command: Command, outcome: Result<ItemList, RunError>) -> u8
+    ensures { IsTold W.got W.faults W.plan out.old out.new result (outcome_status outcome) (lines_output command outcome) }
 {
     match outcome {
         Ok(items) => match write_lines(out, &items) {
             Ok(()) => DONE,
             Err(Failed) => WRITE_FAULT,
         },
-        Err(error) => refuse(out, error),
+        Err(error) => refuse(out, command, error),
+    }
+}
+
+// Answers the status of a run of `seal` whose input was read, and writes the line that is due where it sealed
+// nothing.
+fn tell_sealed<W: Sink>(out: &mut W, suite: SuiteName, sealed: Result<(), SealFault>) -> u8
+    requires { (number : ℕ) → sealed ≡ Err (SealFault.Mail (SealMailError.SealError number)) → ⊥ }
+    ensures { IsSealTold W.got W.faults W.plan out.old out.new result sealed }
+{
+    match sealed {
+        Ok(()) => DONE,
+        Err(SealFault::InvalidKey) => refuse(out, Command::Seal(suite), RunError::InvalidKey),
+        Err(SealFault::Mail(SealMailError::XofExhausted)) => refuse(
+            out,
+            Command::Seal(suite),
+            RunError::Mail(MailError::XofExhausted),
+        ),
+        Err(SealFault::Mail(SealMailError::WriteFault)) => WRITE_FAULT,
+        Err(SealFault::Mail(SealMailError::NoMemory)) => NO_MEMORY,
+        Err(SealFault::Mail(SealMailError::SealError(_))) => unreachable!(),
+    }
+}
+
+// Runs `seal`, and answers the status.
+fn run_seal<H: KemHash, S: Source, W: Sink>(
+    alloc: Global,
+    suite: SuiteName,
+    src: &mut S,
+    out: &mut W,
+) -> u8
+    ensures ran { Ran H.family (Command.Seal suite) (S.left src.old) (S.left src.new) (S.faults src.old) (S.faults src.new)
+        W.got W.faults W.plan out.old out.new result }
+    ensures faults { S.faults src.old ≤ S.faults src.new }
+{
+    match next_seal_input(alloc, src, key_size(suite.set)) {
+        Ok(input) => {
+            let sealed = seal_suite::<H, W>(alloc, suite, &input, out);
+            tell_sealed(out, suite, sealed)
+        }
+        Err(error) => refuse(out, Command::Seal(suite), error),
+    }
+}
+
+// Runs a command, and answers the status.
+fn run_command<H: KemHash, S: Source, W: Sink>(
+    alloc: Global,
+    command: Command,
+    src: &mut S,
+    out: &mut W,
+) -> u8
+    ensures ran { Ran H.family command (S.left src.old) (S.left src.new) (S.faults src.old) (S.faults src.new)
+        W.got W.faults W.plan out.old out.new result }
+    ensures faults { S.faults src.old ≤ S.faults src.new }
+{
+    match command {
+        Command::Open(suite, budget) => {
+            let outcome = opened_items::<H, S>(alloc, suite, budget, src);
+            tell(out, command, outcome)
+        }
+        Command::Key(set) => {
+            let outcome = key_items::<H, S>(alloc, set, src);
+            tell(out, command, outcome)
+        }
+        Command::Seal(suite) => run_seal::<H, S, W>(alloc, suite, src, out),
     }
 }
 
@@ -196,14 +270,18 @@ fn tell_no_command<W: Sink>(out: &mut W) -> u8
 /// - `open SET KDF AEAD BUDGET`. The source begins with a head: 128 hexadecimal digits, the seed; a line
 ///   feed; an even number of digits up to 8192, the info; a line feed. A mail follows, of which BUDGET bytes
 ///   are read at most. Its messages are written, one line of lower-case digits each.
+/// - `seal SET KDF AEAD`. The source is, to its end, the digits of an encapsulation key, an info as in a head, 64
+///   digits, the seed of `ChaCha20Rng`, and at most 4096 messages of at most 65536 digits each, every one with a
+///   line feed. The mail is written that the random source draws.
 /// - `key SET`. The source begins with 128 hexadecimal digits, the seed, and a line feed. The encapsulation
 ///   key of the seed is written in lower-case digits, with a line feed.
 ///
 /// Status 0: that was written. 2: the words are others, and `! words` was written. 3: the input, the key or
 /// the mail is at fault, and the line of the fault was written: `! head PLACE` for the byte at a place, from
-/// 0, that can't stand there, `! head ended`, or the name of a [`MailError`] with its numbers. 4: the source
-/// failed, and nothing was written. 5: the sink failed, and a front of what is due was written. 6: memory ran
-/// out, and nothing was written.
+/// 0, that can't stand there, `! head ended`, of `seal` `! input PLACE`, `! input ended` and `! InvalidKey`, or
+/// the name of a [`MailError`] with its numbers. 4: the source failed, and nothing was written. 5: the sink
+/// failed, and a front of what is due was written. 6: memory ran out, and nothing was written, or by `seal` a
+/// front of what is due.
 pub fn mail_main<H: KemHash, S: Source, W: Sink>(
     alloc: Global,
     words: &[String],
@@ -213,7 +291,8 @@ pub fn mail_main<H: KemHash, S: Source, W: Sink>(
     // What was written is what is due.
     ensures answered { IfSome (S.left src.old) (λ text. IsAnswer result → (output : List ℕ)
         × Due H.family (map string_bytes words.now) text result output × Gains (W.got out.old) (W.got out.new) output) }
-    ensures fault_told { result ≡ 3 → (error : RunError) × (outcome_status (Err error) ≡ 3) × Gains (W.got out.old) (W.got out.new) (error_line error) }
+    ensures fault_told { result ≡ 3 → (command : Command) × Spells (map string_bytes words.now) command × (error : RunError)
+        × (outcome_status (Err error) ≡ 3) × Gains (W.got out.old) (W.got out.new) (error_line (input_word command) error) }
 
     // A fault of the source, exactly where its count rose, with nothing written; and what was taken before it.
     ensures read_fault { result ≡ 4 → Rose (S.faults src.old) (S.faults src.new) × Gains (W.got out.old) (W.got out.new) [] }
@@ -227,8 +306,11 @@ pub fn mail_main<H: KemHash, S: Source, W: Sink>(
     ensures write_part { IfSome (S.left src.old) (λ text. result ≡ 5 → (status : ℕ) × (output : List ℕ)
         × Due H.family (map string_bytes words.now) text status output × GainsPart (W.got out.old) (W.got out.new) output) }
 
-    // Want of memory, and nothing written.
-    ensures memory { result ≡ 6 → Gains (W.got out.old) (W.got out.new) [] }
+    // Want of memory, and nothing written; by `seal` a front of what is due.
+    ensures memory { result ≡ 6 → ((suite : SuiteName) → Spells (map string_bytes words.now) (Command.Seal suite) → ⊥)
+        → Gains (W.got out.old) (W.got out.new) [] }
+    ensures memory_part { IfSome (S.left src.old) (λ text. result ≡ 6 → Gains (W.got out.old) (W.got out.new) []
+        ⊎ ((status : ℕ) × (output : List ℕ) × Due H.family (map string_bytes words.now) text status output × GainsPart (W.got out.old) (W.got out.new) output)) }
 
     // The words alone decide on status 2 and its line, whatever the source tells, and then nothing is read.
     ensures command { result ≡ 2 → (command : Command) → Spells (map string_bytes words.now) command → ⊥ }
@@ -242,9 +324,9 @@ pub fn mail_main<H: KemHash, S: Source, W: Sink>(
         → (Rose (W.faults out.old) (W.faults out.new) → ⊥) → (result ≡ status) ⊎ (result ≡ 6)) }
 
     // What a command ended with, which was told: it decides on what was taken, and whether the source is at its end.
-    ensures taken { (command : Command) → Spells (map string_bytes words.now) command → (outcome : Outcome)
-        × CameTo H.family command (S.left src.old) (S.left src.new) (S.faults src.old) (S.faults src.new) outcome
-        × IsTold W.got W.faults W.plan out.old out.new result (outcome_status outcome) (outcome_output outcome) }
+    ensures taken { (command : Command) → Spells (map string_bytes words.now) command
+        → Ran H.family command (S.left src.old) (S.left src.new) (S.faults src.old) (S.faults src.new)
+        W.got W.faults W.plan out.old out.new result }
     // So nothing is taken behind the byte that decides on the input, and of a mail at most the budget.
     ensures within { (command : Command) → Spells (map string_bytes words.now) command
         → Lost (S.left src.old) (S.left src.new) (MostTakes command) }
@@ -257,6 +339,5 @@ pub fn mail_main<H: KemHash, S: Source, W: Sink>(
     let Some(command) = command_of(words) else {
         return tell_no_command(out);
     };
-    let outcome = items_of::<H, S>(alloc, command, src);
-    tell(out, outcome)
+    run_command::<H, S, W>(alloc, command, src, out)
 }

@@ -1,6 +1,10 @@
 -- What is held for a sink and handed over.
-use Rattle.std.specs.Prelude.{◌≡◌, ℕ, List, ◌++◌, Option, Result, MatchResult}
+use Rattle.std.specs.Prelude.{◌≡◌, ℕ, List, ◌++◌, Option, Result, MatchResult, Ok, Err}
 use Rattle.age_format.specs.Outside.{Wrote, WrotePart}
+use Rattle.mail_commands.specs.Command.{input_word}
+use Rattle.mail_commands.specs.Due.{Outcome}
+use Rattle.mail_commands.specs.Lines.{lines, error_line}
+use Rattle.mail_commands.specs.declared.command.Command.{Command}
 
 -- the front of what was held and of this output was written, and the rest is held
 abbrev pub Hands : {W : Type 0} → (W → Option (List ℕ)) → (W → ℕ) → (W → List ℕ) → W → W → List ℕ → List ℕ → List ℕ → Type 0
@@ -10,3 +14,8 @@ Hands got faults plan before now held left output = (written : List ℕ) × Wrot
 abbrev pub Passes : {W A E : Type 0} → (W → Option (List ℕ)) → (W → ℕ) → (W → List ℕ) → W → W → List ℕ → List ℕ → Result A E → List ℕ → Type 0
 Passes got faults plan before now held left result output =
     MatchResult result (λ _. Hands got faults plan before now held left output) (λ _. WrotePart got faults plan before now (held ++ output))
+
+-- the output of an outcome whose items are written as lines
+abbrev pub lines_output : Command → Outcome → List ℕ
+lines_output command (Ok items) = lines items
+lines_output command (Err error) = error_line (input_word command) error

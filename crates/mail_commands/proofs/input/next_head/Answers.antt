@@ -20,6 +20,6 @@ returns-in-Ok-clause-taken g c =
 pub returns-in-Err-clause-taken : goal.returns-in-Err-clause-taken
 returns-in-Err-clause-taken g c =
     let left = g.S.Source.left in
-    rw c.behind_seed.ensures
+    rw c.behind_bytes.ensures
     (lost_second (Vec ℕ Global) Head (λ t bytes. IsLine 0 8192 t bytes.items) (λ t head. IsHead t head.seed head.info.items) (left c.args.src.now) (left c.next_seed.new.src) (left c.next_line.new.src) c.in_ok-seed.seed c.in-Err.error
     c.in_ok-seed.ensures.taken c.in-Err.ensures.taken)

@@ -1,93 +1,10 @@
-use Rattle.std.proofs.Common.{◌≡◌, ◌≢◌, ◌≤◌, ◌%◌, ◌++◌, ◌⊎◌, ℕ, true, [], ◌∷◌, length, Err, inl, inr, ap, sym, ◌∙◌, arith, Vec, Global}
-use Rattle.std.proofs.lemmas.List.{length_push}
-use Rattle.std.proofs.lemmas.Result.{err_from_is_err_and}
-use Rattle.hex.specs.Hex.{is_hex_digit}
+use Rattle.std.proofs.Common.{ℕ, Vec, Global}
 use Rattle.mail_commands.specs.Input.{IsLine}
-use Rattle.kem_mail.specs.declared.error.MailError.TheVariants.{ReadFault}
-use Rattle.mail_commands.specs.declared.error.RunError.TheVariants.{Mail}
-use Rattle.mail_commands.proofs.Inputs.{Lost_then, line_ended, line_memory, line_fails, line_decoded, line_sized, digit_from_ascii, no_digit_from_ascii, digits_pushed}
+use Rattle.mail_commands.proofs.Inputs.{line_missing}
 use Rattle.mail_commands.proofs.input.next_line.Goals as goal
-use Rattle.mail_commands.proofs.input.next_line.Goals.{else-byte-eq10-via-then-byte-eq10+then-count-least+else-count-eq0, else-byte-eq10-via-then-byte-eq10+else-count-least, else-byte-eq10-via-else-byte-eq10}
-use Rattle.mail_commands.proofs.input.next_line.Goals.{then-count-most-via-then-count-most, then-count-most-via-else-count-most+then-not-is_ascii_hexdigit}
 
-pub returns-in_err-byte-clause-taken : goal.returns-in_err-byte-clause-taken
-returns-in_err-byte-clause-taken g c =
+pub returns-in-None-clause-taken : goal.returns-in-None-clause-taken
+returns-in-None-clause-taken g c =
     let left = g.S.Source.left in
-    let inv = c.loop-digits.invariant in
-    let p = err_from_is_err_and c.from_residual.result c.from_residual.ensures.1 in
-    rw (p.1, p.2)
-    (line_ended (left c.args.src.now) (left c.loop-digits.src) (left c.next_byte.new.src) c.args.least c.args.most c.loop-digits.digits.items
-    c.requires.range c.requires.even inv.within inv.all (Vec ℕ Global) (λ t bytes. IsLine c.args.least c.args.most t bytes.items) c.in_err-byte.field-0.0 inv.taken c.in_err-byte.ensures.taken c.in_err-byte.ensures.refused)
-
-pub returns-then-count-eq0-clause-taken : goal.returns-then-count-eq0-clause-taken
-returns-then-count-eq0-clause-taken g c =
-    let left = g.S.Source.left in
-    let inv = c.loop-digits.invariant in
-    let enough : c.args.least ≤ length c.loop-digits.digits.items = omega (arith, c.loop-digits.digits.ok.0, c.len-count.ensures, c.if-count-least.true) in
-    line_decoded (Vec ℕ Global) (λ v. v.items) c.decoded.result (left c.args.src.now) (left c.loop-digits.src) (left c.next_byte.new.src) c.args.least c.args.most c.loop-digits.digits.items
-    c.requires.range c.requires.even inv.within inv.all inv.taken (rw c.if-byte-eq10.true at c.in_ok-byte.ensures.taken) enough (rw c.deref.ensures.value at c.decoded.ensures.value) c.decoded.ensures.memory
-
-pub returns-then-count-eq0-clause-sized : goal.returns-then-count-eq0-clause-sized
-returns-then-count-eq0-clause-sized g c =
-    let enough : c.args.least ≤ length c.loop-digits.digits.items = omega (arith, c.loop-digits.digits.ok.0, c.len-count.ensures, c.if-count-least.true) in
-    line_sized (Vec ℕ Global) (λ v. v.items) c.decoded.result c.args.least c.args.most c.loop-digits.digits.items enough c.loop-digits.invariant.within (rw c.deref.ensures.value at c.decoded.ensures.value)
-
-pub returns-then-count-most-clause-taken : goal.returns-then-count-most-clause-taken
-returns-then-count-most-clause-taken g c =
-    let left = g.S.Source.left in
-    let inv = c.loop-digits.invariant in
-    let ds = c.loop-digits.digits.items in
-    let b = c.in_ok-byte.byte in
-    let count : c.len-count.result ≡ length ds = omega (arith, c.loop-digits.digits.ok.0, c.len-count.ensures) in
-    let stop : (is_hex_digit b ≢ true) ⊎ (c.args.most ≤ length ds) =
-    elim c.then-count-most.branch [
-      | then-count-most-via-then-count-most w ↦ inr (omega (arith, count, w.if-count-most.true))
-      | then-count-most-via-else-count-most+then-not-is_ascii_hexdigit w ↦ inl (no_digit_from_ascii b (sym w.is_ascii_hexdigit.ensures.value ∙ w.if-not-is_ascii_hexdigit.true))
-    ] in
-    let no_end : b ≡ 10 → c.args.least ≤ length ds → length ds % 2 ≡ 0 → ⊥ = λ ten enough even.
-    elim c.else-byte-eq10.branch [
-      | else-byte-eq10-via-then-byte-eq10+then-count-least+else-count-eq0 w ↦ omega (arith, count, even, w.if-count-eq0.false)
-      | else-byte-eq10-via-then-byte-eq10+else-count-least w ↦ omega (arith, count, enough, w.if-count-least.false)
-      | else-byte-eq10-via-else-byte-eq10 w ↦ omega (arith, ten, w.if-byte-eq10.false)
-    ] in
-    rw count
-    (line_fails (left c.args.src.now) (left c.loop-digits.src) (left c.next_byte.new.src) c.args.least c.args.most ds
-    c.requires.range c.requires.even inv.within inv.all b inv.taken c.in_ok-byte.ensures.taken stop no_end)
-
-pub loop-digits-preserved : goal.loop-digits-preserved
-loop-digits-preserved g c =
-    let left = g.S.Source.left in
-    let inv = c.loop-digits.invariant in
-    let ds = c.loop-digits.digits.items in
-    let b = c.in_ok-byte.byte in
-    let items = c.in_ok-push.ensures.items in
-    let digit = digit_from_ascii b (sym c.is_ascii_hexdigit.ensures.value ∙ c.if-not-is_ascii_hexdigit.false) in
-    record {
-      taken = rw items (Lost_then (left c.args.src.now) (left c.loop-digits.src) (left c.next_byte.new.src) (λ t. t ≡ ds) (λ t. t ≡ b ∷ []) (λ t. t ≡ ds ++ b ∷ []) inv.taken c.in_ok-byte.ensures.taken (λ a c p q. cc));
-      all = rw items (digits_pushed ds b inv.all digit);
-      within = rw items (omega (arith, length_push ds b, c.loop-digits.digits.ok.0, c.len-count.ensures, c.if-count-most.false));
-      no_fault = c.in_ok-byte.ensures.no_fault (λ e. cc e) ∙ inv.no_fault;
-    }
-
-pub returns-in_err-push-clause-taken : goal.returns-in_err-push-clause-taken
-returns-in_err-push-clause-taken g c =
-    let left = g.S.Source.left in
-    let inv = c.loop-digits.invariant in
-    let p = err_from_is_err_and c.from_residual-in_err-push.result c.from_residual-in_err-push.ensures.1 in
-    rw (p.1, p.2)
-    (line_memory (left c.args.src.now) (left c.loop-digits.src) (left c.next_byte.new.src) c.args.least c.args.most c.loop-digits.digits.items
-    c.requires.range c.requires.even inv.within inv.all c.in_ok-byte.byte inv.taken c.in_ok-byte.ensures.taken)
-
-pub returns-in_err-byte-clause-no_fault : goal.returns-in_err-byte-clause-no_fault
-returns-in_err-byte-clause-no_fault g c = λ not.
-    let p = err_from_is_err_and c.from_residual.result c.from_residual.ensures.1 in
-    c.in_err-byte.ensures.no_fault (λ e. let same : c.in_err-byte.field-0.0 ≡ Mail ReadFault = cc e in not (p.1 ∙ ap Err (p.2 ∙ same))) ∙ c.loop-digits.invariant.no_fault
-
-pub returns-then-count-eq0-clause-no_fault : goal.returns-then-count-eq0-clause-no_fault
-returns-then-count-eq0-clause-no_fault g c = λ not. c.in_ok-byte.ensures.no_fault (λ e. cc e) ∙ c.loop-digits.invariant.no_fault
-
-pub returns-then-count-most-clause-no_fault : goal.returns-then-count-most-clause-no_fault
-returns-then-count-most-clause-no_fault g c = λ not. c.in_ok-byte.ensures.no_fault (λ e. cc e) ∙ c.loop-digits.invariant.no_fault
-
-pub returns-in_err-push-clause-no_fault : goal.returns-in_err-push-clause-no_fault
-returns-in_err-push-clause-no_fault g c = λ not. c.in_ok-byte.ensures.no_fault (λ e. cc e) ∙ c.loop-digits.invariant.no_fault
+    line_missing (Vec ℕ Global) (λ t bytes. IsLine c.args.least c.args.most t bytes.items) (left c.args.src.now) (left c.line_or_end.new.src) c.args.least c.args.most c.requires.range c.requires.even
+    (rw c.in-None.is at c.in_ok-bytes.ensures.taken)

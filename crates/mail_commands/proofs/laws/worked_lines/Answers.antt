@@ -22,3 +22,7 @@ returns-clause-length c = refl
 pub returns-clause-open_error : goal.returns-clause-open_error
 unfolding digits
 returns-clause-open_error c = refl
+
+pub returns-clause-input_place : goal.returns-clause-input_place
+unfolding digits
+returns-clause-input_place c = refl
