@@ -62,7 +62,7 @@ where
     F: FnOnce(Bech32Error) -> E + Drop,
     G: FnOnce(&Hrp) -> Result<(), E> + Drop,
     H: FnOnce(&Hrp, &[u8]) -> Result<T, E> + Drop,
-    // Each closure may be called where it is called.
+    // A closure has to be callable at nothing but what it is called at.
     requires parse_err { (why : Why) → IsRefusal (reading text.now) why → F.pre parse_err why }
     requires hrp_filter { (part bytes : List ℕ) → reading text.now ≡ Read part bytes → FnOnceTakesAt G.FnOnce hrp_filter part }
     requires data_parse { (part bytes : List ℕ) → reading text.now ≡ Read part bytes → FnOnceReturnsAt G.FnOnce hrp_filter part (Ok tt)
