@@ -44,8 +44,8 @@ const KEY_1024: Part = (
 const MAIL_1024: &str =
     "-> kem\nsO1P0Itlb6lJZV8FrRP87vGCwhQuhGJToJBmcHYiK54Npt3YuGEDRdyeQrOAXY5T\nQq6AtU5WRqT2CgzYsZzMrRsxwFrTDgHxstGCfRXuk4PuCMFhvQVCGxsNnIqoVnQX\naAOfYA8/irK6M24irITXQNjJIW1ew4u4cuc2a39aRJP72N4C3QBgfbwgKrypprhA\nZJJh01Ud7w8lBJLqa0Rvqxup68khHJHPgo2ea7v+e4eRt6aaSlUsHXoTWf1Jx/0f\ntspXKi7Ymg2YqdmAtH+JYdLU3J2vrjJcbSN8UcRAEGvwoyf8xJQ7j3IaddgU9vm1\nBO/Nc0uSmTB6VU3Nq3Ze2igIBtCjrLEh1ZPa0mwy8ntrRji+UnMd03q9J2dpR1Xq\n1EmdfdYg+PUFDe6v9CRq7UwKzyazIkhAGJPuW7ne0Qqyn+v6SwKTRivkWfg0NyNR\nCV0GQbUp0BmFPH0ESrLGAK28h0BUOE4smR/y1HOcfo7f68Vyq6IcHdPhT2WeseO1\nE0+eth/AWbFJ2VfqMrUn1NjWy0LSv+bDjB3h27nEDcIoygHnvskYk1irk2zj41tj\n4ZzLnJRmNfZ45PAOZ1seWswzH27eSeZuZzxKt4++XD9bK9mNqVW+PZpNztVjkqnh\nOXlRzpuhT0qKEoZHm6s44P7dYWZsDuiJrpvWrbdkHqjUHUgwDulfmPcbdCOYNAOu\nIjBTPq1XQXQDVH8DS3DsvCz8M/CW3U1icrIzvRZXTtq+aou8mqmf3n7N+6nE7U/L\nqeDAYLRRRC9xs3f09OtCQFUqP33UutbdQ6EEy8sCruVYOXNTCtdiVfZLkkwePAn/\n1UtTMpdN9Ojq+26+hQStAgUaV76YGW8bzNBhRss+XakUdymc8e1d3eaqLpvb8ucD\nYcQ4eA/KT+nZAF5mtoGhFK+zl0ZSsbY/E6CIQe8L4xmzmlhvb+1cN9SGAYNM4sLk\npf+psNolAPMqa3FZ4dQu4/lhcGivsKQNevbUW+niM/E7vNmXuC+9uKg6oyuBU4JA\nzYLoinNJoYQdjuUTdvHEIiat3Kfg07hBf6CE9bcpuDPgxzL7Hzey3CK/mLfhLAEt\nraEFz4ksodZmeBw7JFGr+Vo2UYvS0w/qK++pubaZ5dTFj4XcG/zmzLEz0Yk+qeZB\nHjUS6Iij/cwRa/TQx3l9SwyyO+64gIgZBaNyaRiXzt8z8Ohq0Zp1iieKQBrrQaUm\nmXxOOwxL7Nr9jzg+W44xk0ieDsTq64hlM0lApbQRCpe3aLhPbtT8z77d1oUrfYSK\n4CumKZ+T2v4TY/FQ+OZALOa/V2YIp/fr2eBVUccgDsYYBbH40cPhi2Q0xjDW3ovH\nNZJxeam5visVRuwGQxVt1hUHAzz3NsyJ71v+B9L9Fyft0jE3z4M3orV6YNhH+Tm6\nPFRWY9AZTtRLkoywp8iiK0nsnYXn4AfXGn0xzRgu8oKc4gcTqZPy7jlHnzblUt5m\ndcDLzEuBmxzpEvh8cbLB3kRfk8Q+X926wSYFxc95Hleur9kj818FY8/3iT46Sbrv\nK2KOzrmG8/j6/OzCFpgj6Ve3YrEScIwVfyjDQDrB1LqiVllKl0T07w/A8FYZc3Mr\ngz5piBtSX/JfYSCD5RbF2fYgBMaS1E8lZy2gxJSiyFtwvEWcmNPpFd9IXYVjhXU1\nVJCaXQZo/cw+7kpmrJ4mILCb7nfHaRNXVz5bzj72CAHAmy9mOQS3pXSm0hJLK5m4\nd94cKciCm8Lp3Ipp6DrS/U1RXH2r0PJMBbHro2fATmbYHnqKyuf83tAc0gNXYqIJ\nvqD8JnFUdmJHaacImJ30N70DAx4XqsiCG6J9VCX1NMYT/0gOE1v/E1xve6WF5om1\nbs+iWWOTp+dvVFeSInEDozrG8cRIM2RLFMf7lzDWEZRs9yCX2VOQqBW5zOVlH69p\nwpzttN7DfrEYAMmrnflrnBV2M7kJvyJ+KhRY0Ld/vBh5z1gEtlH8z18LqKS0ZkRf\n20n5ItqbcuXd8agxzoXozdgqYa/LFvMxMkqsovSTvyTchmiHBOb9lCSagy7FDA/7\nbh2116CCMBZP1/unWD81GtFJhW7O5p6saNoN94JMv9k\n-> msg\ned4Qm2NRN+AYLiXrXBHF5cr6hFVFIkNiv2vS5A\n-> msg\n4dByfH9I+qAveYRcFF84WEh9UOFt9hdmIkJsiyfYUGmvZNkSI0rPtS0dz9wiMQ34\n\n-> msg\nK6J//Jsr/Xn9UhYxLRVWqhvdT1jjrAF9\n-> done\n\n";
 
-/// Inputs that are refused, and keys.
-pub const REFUSED_SEALS: &[Run] = &[
+/// Inputs of `seal` that end too early, each with its line.
+const ENDED_INPUTS: &[Run] = &[
     Run {
         name: "ended empty",
         command: "seal 512 sha256 aes128",
@@ -116,6 +116,10 @@ pub const REFUSED_SEALS: &[Run] = &[
         status: 3,
         output: "! input ended\n",
     },
+];
+
+/// Inputs of `seal` with a fault in the line of the key, the info or the seed, each with its line.
+const FAULTY_LINES: &[Run] = &[
     Run {
         name: "key one digit long",
         command: "seal 512 sha256 aes128",
@@ -218,6 +222,10 @@ pub const REFUSED_SEALS: &[Run] = &[
         status: 3,
         output: "! input 1675\n",
     },
+];
+
+/// Inputs of `seal` with a fault in the messages, each with its line.
+const FAULTY_MESSAGES: &[Run] = &[
     Run {
         name: "odd message",
         command: "seal 512 sha256 aes128",
@@ -274,6 +282,10 @@ pub const REFUSED_SEALS: &[Run] = &[
         status: 3,
         output: "! input 5767\n",
     },
+];
+
+/// Inputs of `seal` whose key is refused, and keys at the edges of what is taken.
+const EDGE_KEYS: &[Run] = &[
     Run {
         name: "key of 512 for 768",
         command: "seal 768 sha256 aes128",
@@ -445,3 +457,19 @@ pub const OPENED_SEALS: &[Run] = &[
         output: "8ae222b839e239721a3eae39\n2fd4dff182c9780a04ceb3c097286dd826226e1fcfd65ff5997256f3d9d6fcb2\n200eed91f7e3422e\n",
     },
 ];
+
+pub fn ended_inputs() -> &'static [Run] {
+    ENDED_INPUTS
+}
+
+pub fn faulty_lines() -> &'static [Run] {
+    FAULTY_LINES
+}
+
+pub fn faulty_messages() -> &'static [Run] {
+    FAULTY_MESSAGES
+}
+
+pub fn edge_keys() -> &'static [Run] {
+    EDGE_KEYS
+}

@@ -5,7 +5,7 @@ use crate::runs::{
     COUNTED_RUNS, DONE_INPUT, FAULTY_RUNS, KEYS, MESSAGES_INPUT, NO_COMMANDS, Part, Run,
     ZERO_INPUT, ZERO_MAIL, ZERO_SEED, heads, opened_mails, refusals,
 };
-use crate::seals::{OPENED_SEALS, REFUSED_SEALS, SEALS};
+use crate::seals::{OPENED_SEALS, SEALS, edge_keys, ended_inputs, faulty_lines, faulty_messages};
 use age_core::outside::{CleanSource, MemSink, MemSource, Source};
 use hash_families::{AboutModulus, Ones, RepeatingHash, SmallAndFifty, Zeros};
 use hpke::{AesGcm256, Deserializable, HkdfSha256, MaskKem, MaskKey};
@@ -121,8 +121,23 @@ fn sealed_mails_open(rt: HostRuntime) -> Result<(), Fail> {
 }
 
 #[test]
-fn inputs_of_seal_have_their_answers(rt: HostRuntime) -> Result<(), Fail> {
-    compare(&rt, REFUSED_SEALS)
+fn inputs_of_seal_that_end_are_refused(rt: HostRuntime) -> Result<(), Fail> {
+    compare(&rt, ended_inputs())
+}
+
+#[test]
+fn faulty_lines_have_their_places(rt: HostRuntime) -> Result<(), Fail> {
+    compare(&rt, faulty_lines())
+}
+
+#[test]
+fn faulty_messages_have_their_places(rt: HostRuntime) -> Result<(), Fail> {
+    compare(&rt, faulty_messages())
+}
+
+#[test]
+fn keys_at_the_edges_have_their_answers(rt: HostRuntime) -> Result<(), Fail> {
+    compare(&rt, edge_keys())
 }
 
 /// A fault of the sink while a mail is sealed leaves a front of the mail's text.
