@@ -51,3 +51,10 @@ pub zipped : (f : ℕ → ℕ → ℕ) (q n : ℕ) (xs ys out : List ℕ) → 25
     → Filled q (λ k. f (get_or xs k 0) (get_or ys k 0)) n out → out ≡ zip2 f xs ys
 zipped f q n xs ys out all p r filled = ext_get_or 0 out (zip2 f xs ys) (filled.size ∙ sym p ∙ sym (length-zip2 f xs ys (p ∙ sym r)))
     (λ k within. filled.at k (omega (arith, filled.size)) ∙ sym (get_or-zip2 f xs ys k 0 0 0 (omega (arith, filled.size)) (omega (arith, filled.size))))
+
+-- ---- a list that a loop changes in its place
+
+-- the first n numbers have their new values, below q, and the others are those of f
+pub record Replaced (q : ℕ) (value : ℕ → ℕ) (f : List ℕ) (n : ℕ) (out : List ℕ) : Type 0 where
+  pub filled : Filled q value n out
+  pub left : (k : ℕ) → n ≤ k → get_or out k 0 ≡ get_or f k 0

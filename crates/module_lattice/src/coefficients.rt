@@ -24,6 +24,18 @@ pub(crate) fn add<F: Field>(f: &[u32; DEGREE], g: &[u32; DEGREE]) -> [u32; DEGRE
     out
 }
 
+/// Adds the numbers of `g` to those of `f` in their place.
+pub(crate) fn add_to<F: Field>(f: &mut [u32; DEGREE], g: &[u32; DEGREE])
+    requires first { IsPolynomial F.Q f.old }
+    requires second { IsPolynomial F.Q g.now }
+    ensures value { f.new ≡ sum F.Q f.old g.now }
+    ensures within { IsPolynomial F.Q f.new }
+{
+    for i in 0..DEGREE {
+        f[i] = (Elem::<F>::new(f[i]) + Elem::new(g[i])).get();
+    }
+}
+
 /// The differences, place by place.
 pub(crate) fn sub<F: Field>(f: &[u32; DEGREE], g: &[u32; DEGREE]) -> [u32; DEGREE]
     requires first { IsPolynomial F.Q f.now }

@@ -2,8 +2,6 @@
 
 ghost use Rattle.std.specs.Prelude.{◌≡◌, ◌*◌, ◌+◌, ◌-◌, ◌%◌, ◌^◌, ◌<◌, ◌≤◌, ℕ, nat_lt, if◌then◌else◌};
 
-use ctutils::primitives::borrowing_sub_u32;
-use ctutils::{Choice, CtSelect};
 use std::fmt::Debug;
 
 /// The integers modulo Q, for a Q that is at least 2 and below 2^31.
@@ -56,6 +54,10 @@ pub trait Field: Copy + Default + Debug + PartialEq + Sized {
     ghost products_within: { (Q - 1) * (Q - 1) ≤ BARRETT_LIMIT };
 }
 
+// The bits that Barrett reduction modulo 3329 drops before its product, which is then below 2^32 for
+// every number up to BARRETT_LIMIT. The remainder stays below 2·Q.
+const DROPPED_BITS: usize = 5;
+
 /// The field of ML-KEM (FIPS 203, section 2.3).
 #[derive(Clone, Copy, Debug, Default, PartialEq, Eq)]
 pub struct BaseField;
@@ -99,9 +101,12 @@ impl Field for BaseField {
         small_reduce(x, Self::Q)
     }
 
+    // In words of 32 bits: processors multiply four of them at once, but few of 64 bits.
     fn barrett_reduce(x: u64) -> u32 {
-        let quotient = (x * Self::BARRETT_MULTIPLIER as u64) >> Self::BARRETT_SHIFT;
-        Self::small_reduce((x - quotient * Self::QL) as u32)
+        let x = x as u32;
+        let product = (x >> DROPPED_BITS) * Self::BARRETT_MULTIPLIER as u32;
+        let quotient = product >> (Self::BARRETT_SHIFT - DROPPED_BITS);
+        Self::small_reduce(x - quotient * Self::Q)
     }
 }
 
@@ -156,10 +161,9 @@ impl Field for Field8380417 {
     }
 }
 
-// One subtraction of `q` at most, by a mask.
+// One subtraction of `q` at most: of an `x` below `q` the difference wraps, and is the greater.
 fn small_reduce(x: u32, q: u32) -> u32
     ensures { result ≡ (if nat_lt x q then x else x - q) }
 {
-    let (difference, is_below) = borrowing_sub_u32(x, q, Choice::FALSE);
-    difference.ct_select(&x, is_below)
+    x.min(x.wrapping_sub(q))
 }

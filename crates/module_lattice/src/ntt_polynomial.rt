@@ -64,7 +64,7 @@ impl<F: Field> NttPolynomial<F> {
         ensures value { self.new ≡ sum F.Q self.old rhs.now }
         ensures polynomial { IsPolynomial F.Q rhs.now }
     {
-        self.values = coefficients::add::<F>(&self.values, &rhs.values);
+        coefficients::add_to::<F>(&mut self.values, &rhs.values);
     }
 
     /// The numbers.
