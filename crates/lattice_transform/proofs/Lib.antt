@@ -36,7 +36,7 @@ pub mod Stages
 pub mod Remainders
 -- seven layers
 pub mod Seven
--- the table of the zetas
+-- the tables of the zetas and of their quotients
 pub mod ZetaTable
 -- the loop over the butterflies of a layer
 pub mod LayerLoop
@@ -50,3 +50,5 @@ pub mod SevenBack
 pub mod Copies
 -- compression by a multiplier
 pub mod Multiplier
+-- products by the quotient of one factor
+pub mod Quotients
