@@ -1,5 +1,5 @@
 -- One stanza at the front of a text: what is read spells it, and what spells it is read.
-use Rattle.std.proofs.Common.{◌≡◌, ◌≢◌, ℕ, ◌<◌, true, false, List, [], ◌∷◌, ◌++◌, length, take, drop, get_or, map, Option, Some, None, refl, sym, ap, subst, ◌∙◌, append_assoc, inl, inr, arith}
+use Rattle.std.proofs.Common.{◌≡◌, ◌≢◌, ℕ, ◌<◌, Bool, true, false, cond, List, [], ◌∷◌, ◌++◌, length, take, drop, get_or, map, Option, Some, None, refl, sym, ap, subst, ◌∙◌, append_assoc, inl, inr, arith}
 use Rattle.std.specs.Prelude.{codes, remove}
 use Rattle.std.specs.Str.{bytes_eq}
 use Rattle.std.specs.List.{flat_map, AllByRecursion}
@@ -10,7 +10,8 @@ use Rattle.std.proofs.lemmas.List.Concat.{flat_map-append}
 use Rattle.base64.specs.Engines.{standard_no_pad}
 use Rattle.age_format.specs.Stanza.{Stanza, IsStanza, IsBytes, IsArbitraryString, body_lines, spelling}
 use Rattle.base64.specs.declared.engine.general_purpose.GeneralPurpose.{GeneralPurpose}
-use Rattle.age_format.specs.private.Parse.{IsLineEngine, words_from, lines_from, stanza_from, stanza_behind, stanza_read}
+use Rattle.age_format.specs.private.Parse.{IsLineEngine, words_from, lines_from, header_from, header_behind, header_read, with_lines, with_body, stanza_from, stanza_behind, stanza_read}
+use Rattle.age_format.specs.Strings.{BeginsWithHeader}
 use Rattle.age_format.proofs.Cases.{chosen, some_parts, IsBytes-rest, IsBytes-append_right}
 use Rattle.age_format.proofs.Words.{joined, behind_space, SpellsWords, words_sound, words_complete}
 use Rattle.age_format.proofs.Lines.{lines_sound, lines_complete}
@@ -74,10 +75,6 @@ module _ (engine : GeneralPurpose) (is_line : IsLineEngine engine) where
         | inr other ↦ absurd (none-some _ other.1)
       ]
 
-  pub no_prefix : (text : List ℕ) → bytes_eq (take 3 text) (codes "-> ") ≡ false → stanza_read engine text ≡ None
-  unfolding stanza_read
-  no_prefix text e = rw e refl
-
   -- no spelling begins what is no stanza
   pub none_begins : (text : List ℕ) → stanza_read engine text ≡ None → (s : Stanza) (more : List ℕ) → IsStanza s → text ≢ spelling s ++ more
   none_begins text none s more is e = none-some _ (sym none ∙ (ap (stanza_read engine) e ∙ stanza_complete s more is))
@@ -86,38 +83,97 @@ module _ (engine : GeneralPurpose) (is_line : IsLineEngine engine) where
   pub same_stanza : (s t : Stanza) (more rest : List ℕ) → IsStanza s → IsStanza t → spelling s ++ more ≡ spelling t ++ rest → (s ≡ t) × (more ≡ rest)
   same_stanza s t more rest h k e = some_parts s t more rest (sym (stanza_complete s more h) ∙ (ap (stanza_read engine) e ∙ stanza_complete t rest k))
 
--- ---- what the parts of a text come to, as the code finds them
-
-stanza_from-none : (words : List (List ℕ)) → stanza_from words None ≡ None
-stanza_from-none [] = refl
-stanza_from-none (tag ∷ args) = refl
+-- ---- a header line, as the code finds it
 
 -- the first word, and those after it
 pub split_first : {X : Type 0} (f : X → List ℕ) (xs : List X) (x : X) (ys : List X) → 0 < length xs → x ≡ get_or xs 0 x → ys ≡ remove xs 0 → map f xs ≡ f x ∷ map f ys
 split_first f [] x ys lt first others = absurd (omega (arith, lt))
 split_first f (z ∷ zs) x ys lt first others = rw (first, others) refl
 
-module _ (engine : GeneralPurpose) (text behind : List ℕ) (starts : bytes_eq (take 3 text) (codes "-> ") ≡ true) (is : behind ≡ drop 3 text) where
-  reads_behind : stanza_read engine text ≡ stanza_behind engine (words_from [] [] behind)
-  unfolding stanza_read
+pub no_header : (text : List ℕ) → bytes_eq (take 3 text) (codes "-> ") ≡ false → header_read text ≡ None
+unfolding header_read
+no_header text e = rw e refl
+
+module _ (text behind : List ℕ) (starts : bytes_eq (take 3 text) (codes "-> ") ≡ true) (is : behind ≡ drop 3 text) where
+  reads_behind : header_read text ≡ header_behind (words_from [] [] behind)
+  unfolding header_read
   reads_behind = rw (starts, is) refl
 
-  pub reads_no_words : None ≡ words_from [] [] behind → stanza_read engine text ≡ None
-  unfolding stanza_behind
+  pub reads_no_words : None ≡ words_from [] [] behind → header_read text ≡ None
   reads_no_words none = reads_behind ∙ rw (← none) refl
 
-  pub reads_no_tag : (words : List (List ℕ)) (after : List ℕ) → words ≡ [] → Some (words, after) ≡ words_from [] [] behind → stanza_read engine text ≡ None
-  unfolding stanza_behind
+  pub reads_no_tag : (words : List (List ℕ)) (after : List ℕ) → words ≡ [] → Some (words, after) ≡ words_from [] [] behind → header_read text ≡ None
   reads_no_tag words after nil found = reads_behind ∙ rw (← found, nil) refl
 
-  pub reads_no_body : (words : List (List ℕ)) (after : List ℕ) → Some (words, after) ≡ words_from [] [] behind → None ≡ lines_from engine [] [] after → stanza_read engine text ≡ None
-  unfolding stanza_behind
-  reads_no_body words after found none = reads_behind ∙ rw (← found, ← none) (stanza_from-none words)
+  pub reads_header : (words : List (List ℕ)) (after tag : List ℕ) (args : List (List ℕ)) → words ≡ tag ∷ args → Some (words, after) ≡ words_from [] [] behind
+      → header_read text ≡ Some (record { tag = tag; args = args; body = [] }, after)
+  reads_header words after tag args cons found = reads_behind ∙ rw (← found, cons) refl
 
-  pub reads_stanza : (words : List (List ℕ)) (after tag : List ℕ) (args : List (List ℕ)) (body rest : List ℕ) → words ≡ tag ∷ args → Some (words, after) ≡ words_from [] [] behind
-      → Some (body, rest) ≡ lines_from engine [] [] after → stanza_read engine text ≡ Some (record { tag = tag; args = args; body = body }, rest)
-  unfolding stanza_behind
-  reads_stanza words after tag args body rest cons found lines = reads_behind ∙ rw (← found, ← lines, cons) refl
+-- ---- a stanza by its header
+
+by_lines : (tag : List ℕ) (args : List (List ℕ)) (read : Option (List ℕ × List ℕ)) → stanza_from (tag ∷ args) read ≡ with_lines (record { tag = tag; args = args; body = [] }) read
+by_lines tag args None = refl
+by_lines tag args (Some read) = refl
+
+by_words : (engine : GeneralPurpose) (words : List (List ℕ)) (after : List ℕ) → stanza_from words (lines_from engine [] [] after) ≡ with_body engine (header_from words after)
+by_words engine [] after = refl
+by_words engine (tag ∷ args) after = by_lines tag args (lines_from engine [] [] after)
+
+by_read : (engine : GeneralPurpose) (words : Option (List (List ℕ) × List ℕ)) → stanza_behind engine words ≡ with_body engine (header_behind words)
+unfolding stanza_behind
+by_read engine None = refl
+by_read engine (Some words) = by_words engine words.0 words.1
+
+by_start : (engine : GeneralPurpose) (starts : Bool) (words : Option (List (List ℕ) × List ℕ))
+    → cond starts (stanza_behind engine words) None ≡ with_body engine (cond starts (header_behind words) None)
+by_start engine true words = by_read engine words
+by_start engine false words = refl
+
+pub stanza_by_header : (engine : GeneralPurpose) (text : List ℕ) → stanza_read engine text ≡ with_body engine (header_read text)
+unfolding stanza_read header_read
+stanza_by_header engine text = by_start engine (bytes_eq (take 3 text) (codes "-> ")) (words_from [] [] (drop 3 text))
+
+-- ---- what is read is a header line, and a header line is read
+
+header_spelled : (text : List ℕ) (words : List (List ℕ)) (after : List ℕ) (header : Stanza) (behind : List ℕ)
+    → SpellsWords text words after → header_from words after ≡ Some (header, behind) → BeginsWithHeader (45 ∷ 62 ∷ 32 ∷ text) header behind
+header_spelled text [] after header behind w e = absurd (none-some _ e)
+header_spelled text (tag ∷ args) after header behind w e =
+    let made : Stanza = record { tag = tag; args = args; body = [] } in
+    let same = some_parts made header after behind e in
+    let regrouped : joined (tag ∷ args) ++ 10 ∷ after ≡ tag ++ flat_map behind_space args ++ 10 ∷ after = simp append_assoc in
+    let read : BeginsWithHeader (45 ∷ 62 ∷ 32 ∷ text) made after = record {
+      whole = ap (λ (t : List ℕ). 45 ∷ 62 ∷ 32 ∷ t) (w.text_is ∙ regrouped);
+      is_stanza = record { tag = w.each.0; args = w.each.1; body = λ i. omega arith };
+      no_body = refl;
+    } in
+    subst (λ (t : List ℕ). BeginsWithHeader (45 ∷ 62 ∷ 32 ∷ text) header t) same.1 (subst (λ (t : Stanza). BeginsWithHeader (45 ∷ 62 ∷ 32 ∷ text) t after) same.0 read)
+
+header_words : (text : List ℕ) (read : Option (List (List ℕ) × List ℕ)) (header : Stanza) (behind : List ℕ) → words_from [] [] text ≡ read
+    → header_behind read ≡ Some (header, behind) → BeginsWithHeader (45 ∷ 62 ∷ 32 ∷ text) header behind
+header_words text None header behind w e = absurd (none-some _ e)
+header_words text (Some found) header behind w e = header_spelled text found.0 found.1 header behind (words_sound text [] [] found.0 found.1 w tt tt) e
+
+pub header_sound : (text : List ℕ) (header : Stanza) (behind : List ℕ) → header_read text ≡ Some (header, behind) → BeginsWithHeader text header behind
+unfolding header_read
+header_sound text header behind e =
+    elim (chosen (bytes_eq (take 3 text) (codes "-> ")) _ _ _ e) [
+      | inl prefix ↦ subst (λ (t : List ℕ). BeginsWithHeader t header behind) (sym (prefixed text prefix.0)) (header_words (drop 3 text) (words_from [] [] (drop 3 text)) header behind refl prefix.1)
+      | inr other ↦ absurd (none-some _ other.1)
+    ]
+
+header_parts : (tag : List ℕ) (args : List (List ℕ)) (body behind : List ℕ) → IsArbitraryString tag → AllByRecursion IsArbitraryString args → body ≡ []
+    → header_read (45 ∷ 62 ∷ 32 ∷ (tag ++ (flat_map behind_space args ++ 10 ∷ behind))) ≡ Some (record { tag = tag; args = args; body = body }, behind)
+unfolding header_read
+header_parts tag args body behind is all none = rw (words_complete args [] tag behind is all, none) refl
+
+pub header_complete : (text : List ℕ) (header : Stanza) (behind : List ℕ) → BeginsWithHeader text header behind → header_read text ≡ Some (header, behind)
+header_complete text header behind h =
+    let regrouped : header.tag ++ flat_map behind_space header.args ++ 10 ∷ behind ≡ header.tag ++ (flat_map behind_space header.args ++ 10 ∷ behind) = append_assoc header.tag (flat_map behind_space header.args) (10 ∷ behind) in
+    ap header_read (h.whole ∙ ap (λ (t : List ℕ). 45 ∷ 62 ∷ 32 ∷ t) regrouped) ∙ header_parts header.tag header.args header.body behind h.is_stanza.tag h.is_stanza.args h.no_body
+
+pub same_header : (text : List ℕ) (header other : Stanza) (behind rest : List ℕ) → BeginsWithHeader text header behind → BeginsWithHeader text other rest → (header ≡ other) × (behind ≡ rest)
+same_header text header other behind rest h k = some_parts header other behind rest (sym (header_complete text header behind h) ∙ header_complete text other rest k)
 
 -- ---- what the readings rest on, whatever the engine
 

@@ -4,7 +4,7 @@ pub mod Outside
 pub mod Adapters
 -- one stanza and its one spelling
 pub mod Stanza
--- the longest run of visible bytes
+-- a header line, and its strings
 pub mod Strings
 -- proper prefixes of spellings
 pub mod Front

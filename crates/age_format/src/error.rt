@@ -7,7 +7,7 @@ use std::alloc::{AllocError, AllocFailed};
 use thiserror::Error;
 
 /// Why a phase ended before its `done`.
-#[derive(Clone, Copy, Debug, PartialEq, Eq, Error)]
+#[derive(Debug, PartialEq, Eq, Error, Drop)]
 pub enum PhaseError {
     /// Memory ran out.
     #[error("no memory")]
@@ -27,6 +27,9 @@ pub enum PhaseError {
     /// The budget ended inside a stanza or between two.
     #[error("the budget ended before the phase did")]
     TooMuch,
+    /// The reply to a command has this tag, which no reply has.
+    #[error("an unexpected reply: {0}")]
+    UnexpectedReply(String),
 }
 
 impl From<AllocError> for PhaseError {

@@ -3,6 +3,7 @@
 ghost use Rattle.std.specs.Prelude.{◌≡◌, ℕ, ◌+◌, ◌-◌, ◌^◌, ◌<◌, List, [], ◌∷◌, ◌++◌, ◌↔◌, length, codes, replicate, Option, Some};
 ghost use Rattle.age_format.specs.Outside.{last_count, Rose, GainsPart};
 ghost use Rattle.age_format.specs.Stanza.{Stanza, IsStanza, IsFront, IsVisible, alphabet, body_lines, spelling};
+ghost use Rattle.age_format.specs.Strings.{BeginsWithHeader};
 ghost use Rattle.age_format.specs.Front.{BeginsNone, IsFrontByCases, IsMalformed};
 ghost use Rattle.age_format.specs.Receiving.{Held, Receives, Took, fresh};
 ghost use Rattle.age_format.specs.Reading.{HasNoDone, IsDone, NoneDone, Reading, Reads, StandsBeforeDone, Before_done, Invalid_data, Unexpected_eof, Too_much};
@@ -57,6 +58,12 @@ pub fn fronts_begin_none()
 /// consumed.
 pub fn what_is_read_is_consumed()
     ensures { (text consumed rest : List ℕ) (s : Stanza) → text ≡ consumed ++ rest → text ≡ spelling s ++ rest → consumed ≡ spelling s }
+{}
+
+/// No text begins with two header lines.
+pub fn one_header()
+    ensures { (text : List ℕ) (one other : Stanza) (behind rest : List ℕ) → BeginsWithHeader text one behind
+        → BeginsWithHeader text other rest → (one ≡ other) × (behind ≡ rest) }
 {}
 
 /// The proper prefixes of spellings are the three cases of the format: a part of `-> `; `-> ` and a

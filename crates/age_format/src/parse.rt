@@ -5,7 +5,7 @@ ghost use Rattle.std.specs.Option.{option_map};
 ghost use Rattle.std.specs.String.{string_bytes};
 ghost use Rattle.base64.specs.GeneralPurpose.{decoded_of};
 ghost use Rattle.age_format.specs.Stanza.{IsBytes, stanza_of};
-ghost use Rattle.age_format.specs.private.Parse.{IsLineEngine, is_visible, words_from, lines_from, stanza_read};
+ghost use Rattle.age_format.specs.private.Parse.{IsLineEngine, is_visible, words_from, lines_from, header_read, stanza_read};
 
 use crate::format::AgeStanza;
 use crate::format::read::arbitrary_string;
@@ -110,6 +110,26 @@ fn body_at<'a>(
     Ok(None)
 }
 
+/// The header line that begins the text, and what follows it.
+pub(crate) fn header_at<'a>(
+    alloc: Global,
+    text: &'a [u8],
+) -> Result<Option<(AgeStanza<'a>, &'a [u8])>, AllocError>
+    ensures { IfOk result (λ found. option_map (λ x. (x.0, x.1.now)) found ≡ header_read text.now) }
+{
+    let Some(text) = text.strip_prefix(PREFIX) else {
+        return Ok(None);
+    };
+    let Some((mut words, behind)) = words_at(alloc, text)? else {
+        return Ok(None);
+    };
+    if words.is_empty() {
+        return Ok(None);
+    }
+    let tag = words.remove(0);
+    Ok(Some((AgeStanza::new(tag, words, Vec::new(alloc)), behind)))
+}
+
 /// The stanza whose spelling begins the text, and what follows it.
 pub(crate) fn stanza_at<'a>(
     alloc: Global,
@@ -120,18 +140,11 @@ pub(crate) fn stanza_at<'a>(
     ensures value { IfOk result (λ found. option_map (λ x. (x.0, x.1.now)) found ≡ stanza_read engine.now text.now) }
     ensures bytes { IfOk result (λ found. IfSome found (λ x. IsBytes x.0.body)) }
 {
-    let Some(text) = text.strip_prefix(PREFIX) else {
+    let Some((header, lines)) = header_at(alloc, text)? else {
         return Ok(None);
     };
-    let Some((mut words, text)) = words_at(alloc, text)? else {
+    let Some((body, rest)) = body_at(alloc, engine, lines)? else {
         return Ok(None);
     };
-    if words.is_empty() {
-        return Ok(None);
-    }
-    let Some((body, rest)) = body_at(alloc, engine, text)? else {
-        return Ok(None);
-    };
-    let tag = words.remove(0);
-    Ok(Some((AgeStanza::new(tag, words, body), rest)))
+    Ok(Some((header.with_body(body), rest)))
 }

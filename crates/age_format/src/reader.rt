@@ -113,6 +113,7 @@ impl StanzaReader {
         ensures read_fault { IsErrOf result PhaseError.ReadFault → Rose (S.faults source.old) (S.faults source.new) × (0 < self.old.budget) }
         ensures no_fault { (IsErrOf result PhaseError.ReadFault → ⊥) → S.faults source.new ≡ S.faults source.old }
         ensures no_write_fault { IsErrOf result PhaseError.WriteFault → ⊥ }
+        ensures no_unexpected_reply { (tag : _) → IsErrOf result (PhaseError.UnexpectedReply tag) → ⊥ }
         ensures invalid_data { IsErrOf result PhaseError.InvalidData → ⊥ }
         ensures unexpected_eof { IsErrOf result PhaseError.UnexpectedEof → (0 < self.old.budget)
             × IfSome (S.left source.old) (λ text. S.left source.new ≡ Some []) }
@@ -162,6 +163,7 @@ impl StanzaReader {
         // So the first fault of the source is the answer, and nothing is read behind it.
         ensures no_fault { (IsErrOf result PhaseError.ReadFault → ⊥) → S.faults source.new ≡ S.faults source.old }
         ensures no_write_fault { IsErrOf result PhaseError.WriteFault → ⊥ }
+        ensures no_unexpected_reply { (tag : _) → IsErrOf result (PhaseError.UnexpectedReply tag) → ⊥ }
         ensures invalid_data { IsErrOf result PhaseError.InvalidData → IsMalformed self.new.bytes }
         ensures unexpected_eof { IsErrOf result PhaseError.UnexpectedEof → IsFront self.new.bytes × (0 < self.new.budget)
             × IfSome (S.left source.old) (λ text. S.left source.new ≡ Some []) }

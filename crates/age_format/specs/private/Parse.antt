@@ -34,6 +34,29 @@ lines_from engine body line (b ∷ bs) =
     else if length line == 64 then None
     else lines_from engine body (line ++ b ∷ []) bs
 
+-- the header of these words: a stanza without a body
+abbrev pub header_from : List (List ℕ) → List ℕ → Option (Stanza × List ℕ)
+header_from [] rest = None
+header_from (tag ∷ args) rest = Some (record { tag = tag; args = args; body = [] }, rest)
+
+abbrev pub header_behind : Option (List (List ℕ) × List ℕ) → Option (Stanza × List ℕ)
+header_behind None = None
+header_behind (Some words) = header_from words.0 words.1
+
+-- the header line that begins the text, and what follows it
+unfoldable pub header_read : List ℕ → Option (Stanza × List ℕ)
+header_read text =
+    if bytes_eq (take 3 text) (codes "-> ") then header_behind (words_from [] [] (drop 3 text)) else None
+
+-- a header with the body that follows it
+abbrev pub with_lines : Stanza → Option (List ℕ × List ℕ) → Option (Stanza × List ℕ)
+with_lines header None = None
+with_lines header (Some read) = Some (record header { body = read.0 }, read.1)
+
+abbrev pub with_body : GeneralPurpose → Option (Stanza × List ℕ) → Option (Stanza × List ℕ)
+with_body engine None = None
+with_body engine (Some read) = with_lines read.0 (lines_from engine [] [] read.1)
+
 -- the stanza of these words and of the body that follows
 abbrev pub stanza_from : List (List ℕ) → Option (List ℕ × List ℕ) → Option (Stanza × List ℕ)
 stanza_from [] read = None

@@ -34,6 +34,14 @@ impl<'a> AgeStanza<'a> {
         AgeStanza { tag, args, body }
     }
 
+    /// The same header line with this body.
+    pub fn with_body(self, body: Vec<u8>) -> AgeStanza<'a>
+        ensures { result ≡ record self.entry { body = body.items } }
+    {
+        let AgeStanza { tag, args, body: _ } = self;
+        AgeStanza { tag, args, body }
+    }
+
     /// What kind of stanza it is.
     pub fn tag(&self) -> &'a str
         ensures { result.now ≡ self.now.tag }

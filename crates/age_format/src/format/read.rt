@@ -1,14 +1,14 @@
 //! The strict reader: what begins a text, or why nothing does.
 
-ghost use Rattle.std.specs.Prelude.{◌≡◌, ◌≤◌, ◌<◌, ◌++◌, ◌↔◌, ◌⊎◌, ℕ, length, take, drop, IfOk, IsErrOf, IsTrue};
+ghost use Rattle.std.specs.Prelude.{◌≡◌, ◌≤◌, ◌<◌, ◌++◌, ◌↔◌, ◌⊎◌, ℕ, List, length, take, drop, IfOk, IfSome, IfNone, IsErrOf, IsTrue};
 ghost use Rattle.std.specs.List.{AllByRecursion};
-ghost use Rattle.age_format.specs.Stanza.{IsArbitraryString, IsFront, IsStanza, IsVisible, spelling};
+ghost use Rattle.age_format.specs.Stanza.{Stanza as Spelled, IsArbitraryString, IsFront, IsStanza, IsVisible, spelling};
 ghost use Rattle.age_format.specs.Front.{IsMalformed};
-ghost use Rattle.age_format.specs.Strings.{BeginsHidden, BeginsWithString};
+ghost use Rattle.age_format.specs.Strings.{BeginsHidden, BeginsWithHeader, BeginsWithString};
 ghost use Rattle.age_format.specs.declared.format.read.ReadRefused.TheVariants.{NoMemory};
 
 use crate::format::AgeStanza;
-use crate::parse::{engine, is_visible, stanza_at};
+use crate::parse::{engine, header_at, is_visible, stanza_at};
 use crate::scan::{Place, Scan, Stop, scan_on};
 use std::alloc::{AllocError, Global};
 use thiserror::Error;
@@ -63,6 +63,18 @@ pub fn arbitrary_string<'a>(input: &'a [u8]) -> Result<(&'a [u8], &'a str), Read
         unreachable!();
     };
     Ok((&input[n..], string))
+}
+
+/// The header line at the front of the input, as a stanza without a body, and what follows the line;
+/// none where none begins the input. The only error is want of memory.
+pub fn header_line<'a>(
+    alloc: Global,
+    input: &'a [u8],
+) -> Result<Option<(AgeStanza<'a>, &'a [u8])>, AllocError>
+    ensures read { IfOk result (λ found. IfSome found (λ x. BeginsWithHeader input.now x.0 x.1.now)) }
+    ensures none { IfOk result (λ found. IfNone found ((header : Spelled) (behind : List ℕ) → BeginsWithHeader input.now header behind → ⊥)) }
+{
+    header_at(alloc, input)
 }
 
 /// The stanza whose spelling begins the input, behind what follows it.
