@@ -4,7 +4,7 @@ use Rattle.std.specs.Prelude.{slice_index, option_and_then}
 use Rattle.std.specs.Result.{result_ok}
 use Rattle.std.specs.List.{AllByRecursion, list_any}
 use Rattle.std.proofs.lemmas.Bool.{cases_lt, eqb-true, eqb-false, ne_eqb, eq-eqb, or_parts}
-use Rattle.std.proofs.lemmas.List.{append-nil, length-append, length-take, length-drop, take_at, drop_at, take-append-drop, length_push}
+use Rattle.std.proofs.lemmas.List.{append-nil, length-append, length-take, length-drop, take_at, drop_at, drop_more, take-append-drop, length_push}
 use Rattle.std.proofs.lemmas.Option.{none-some, option_and_then_some}
 use Rattle.base64.specs.Rfc4648.{encode_symbols}
 use Rattle.base64.specs.GeneralPurpose.{IsStrict, encode_of, decode_of, decoded_of}
@@ -113,6 +113,11 @@ IsBytes-take (suc n) [] h i = omega arith
 IsBytes-take (suc n) (b ∷ bytes) h zero = h 0
 IsBytes-take (suc n) (b ∷ bytes) h (suc i) = IsBytes-take n bytes (IsBytes-rest b bytes h) i
 
+pub IsBytes-drop : (n : ℕ) (bytes : List ℕ) → IsBytes bytes → IsBytes (drop n bytes)
+IsBytes-drop zero bytes h = h
+IsBytes-drop (suc n) [] h = h
+IsBytes-drop (suc n) (b ∷ bytes) h = IsBytes-drop n bytes (IsBytes-rest b bytes h)
+
 module _ (engine : GeneralPurpose) (is_line : IsLineEngine engine) where
   -- at the end of a line
   at_feed : (bs line body whole rest : List ℕ) → IsBytes line → length line ≤ 64
@@ -153,6 +158,19 @@ module _ (engine : GeneralPurpose) (is_line : IsLineEngine engine) where
   feed_full : (line body bytes text : List ℕ) → decoded_of engine line ≡ Some bytes → length line ≡ 64 → lines_from engine body line (10 ∷ text) ≡ lines_from engine (body ++ bytes) [] text
   unfolding lines_from
   feed_full line body bytes text e len = rw (e, eq-eqb _ _ len) refl
+
+  -- a full line at the front of a text is read at once
+  pub full_line_front : (text body bytes : List ℕ) → IsBytes text → 64 < length text → get_or text 64 0 ≡ 10 → decoded_of engine (take 64 text) ≡ Some bytes
+      → lines_from engine (body ++ bytes) [] (drop 65 text) ≡ lines_from engine body [] text
+  full_line_front text body bytes tb within feed e =
+      let line = take 64 text in
+      let rest = drop 65 text in
+      let len : length line ≡ 64 = omega (arith, length-take 64 text) in
+      let is : line ≡ base64 bytes = line_spells engine is_line line bytes (IsBytes-take 64 text tb) e in
+      let free : NoFeed line = subst NoFeed (sym is) (base64_no_feed bytes) in
+      let behind : drop 64 text ≡ get_or text 64 0 ∷ rest = drop_more text 64 0 within in
+      let cut : line ++ 10 ∷ rest ≡ text = ap (λ (b : ℕ). line ++ b ∷ rest) (sym feed) ∙ (ap (λ (t : List ℕ). line ++ t) (sym behind) ∙ take-append-drop 64 text) in
+      sym (ap (lines_from engine body []) (sym cut) ∙ (lines_run line [] body (10 ∷ rest) free (omega (arith, len)) ∙ feed_full line body bytes rest e len))
 
   feed_last : (line body bytes text : List ℕ) → decoded_of engine line ≡ Some bytes → length line < 64 → lines_from engine body line (10 ∷ text) ≡ Some (body ++ bytes, text)
   unfolding lines_from

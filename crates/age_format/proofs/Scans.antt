@@ -1,7 +1,8 @@
 -- The scan of a text that goes on, and of a spelling.
 use Rattle.std.proofs.Common.{◌≡◌, ◌≢◌, ℕ, zero, suc, ◌+◌, ◌-◌, ◌*◌, ◌/◌, ◌%◌, ◌<◌, ◌≤◌, Bool, true, false, cond, not, ◌||◌, ◌&&◌, eqb, leb, ltb, List, [], ◌∷◌, ◌++◌, length, get_or, take, drop, refl, sym, ap, subst, ◌∙◌, append_assoc, inl, inr, arith}
 use Rattle.std.specs.Prelude.{slice_index}
-use Rattle.std.specs.List.{flat_map, AllByRecursion}
+use Rattle.std.specs.List.{flat_map, list_all, AllByRecursion}
+use Rattle.std.proofs.Math.Seq.{take-add}
 use Rattle.std.proofs.lemmas.Bool.{cases_lt, agree_below_at, ne_eqb, eqb-true, ltb-true, and_parts}
 use Rattle.std.proofs.lemmas.Bool.Decides.{nat_tests}
 use Rattle.std.proofs.lemmas.List.{append-nil, length-append, length-take, length-drop, take-append-drop, take_more, drop_more, take_all, take-append-le}
@@ -70,6 +71,20 @@ module _ (text : List ℕ) (seen : ℕ) (place : Place) (is : IsScannedTo text s
   pub seen_broken : seen < length text → step place (get_or text seen 0) ≡ Bad → scan (To Start) text ≡ Broken
   unfolding scan
   seen_broken within e = scan-next Bad within e
+
+  pub seen_run : (n : ℕ) (next : Place) → seen + n ≤ length text → scan (To place) (take n (drop seen text)) ≡ At next → IsScannedTo text (seen + n) next
+  seen_run n next within e = record {
+    within = within;
+    place_is = ap (scan (To Start)) (take-add seen n text) ∙ (scan-append (To Start) (take seen text) (take n (drop seen text)) place is.place_is ∙ e);
+  }
+
+  -- a full line, where one begins
+  pub seen_full_line : place ≡ Line 0 → (rest : List ℕ) → rest ≡ drop seen text → 65 ≤ length rest → scan (To (Line 0)) (take 65 rest) ≡ At (Line 0) → IsScannedTo text (seen + 65) place
+  seen_full_line begins rest same within e =
+      let len : 65 ≤ length (drop seen text) = subst (λ (t : List ℕ). 65 ≤ length t) same within in
+      let here : scan (To place) (take 65 rest) ≡ At place = subst (λ (p : Place). scan (To p) (take 65 rest) ≡ At p) (sym begins) e in
+      let scans : scan (To place) (take 65 (drop seen text)) ≡ At place = subst (λ (t : List ℕ). scan (To place) (take 65 t) ≡ At place) same here in
+      seen_run 65 place (omega (arith, len, length-drop seen text)) scans
 
   pub seen_all : seen ≡ length text → scan (To Start) text ≡ At place
   seen_all all = ap (scan (To Start)) (sym (take_all seen text (omega arith))) ∙ is.place_is
@@ -175,6 +190,24 @@ feed_ends n text lt =
 feed_goes_on : (n : ℕ) (text : List ℕ) → n ≡ 64 → scan (To (Line n)) (10 ∷ text) ≡ scan (To (Line 0)) text
 unfolding scan
 feed_goes_on n text full = ap (λ (k : ℕ). scan (To (Line k)) (10 ∷ text)) full
+
+-- characters, as the test finds them
+tested_characters : (line : List ℕ) → list_all is_character line ≡ true → AllByRecursion IsCharacter line
+tested_characters [] e = tt
+tested_characters (c ∷ cs) e =
+    let both = and_parts (is_character c) (list_all is_character cs) e in
+    (passes_character c both.0, tested_characters cs both.1)
+
+full_line_scans : (line : List ℕ) → list_all is_character line ≡ true → length line ≡ 64 → scan (To (Line 0)) (line ++ 10 ∷ []) ≡ At (Line 0)
+unfolding scan
+full_line_scans line all full = characters_run line (10 ∷ []) 0 (tested_characters line all) (omega arith) ∙ feed_goes_on (0 + length line) [] (omega arith)
+
+-- a full line and its line feed at the front of a text
+pub full_line_begins : (text : List ℕ) → 65 ≤ length text → get_or text 64 0 ≡ 10 → list_all is_character (take 64 text) ≡ true → scan (To (Line 0)) (take 65 text) ≡ At (Line 0)
+full_line_begins text within feed all =
+    let cut : take 65 text ≡ take 64 text ++ get_or text 64 0 ∷ [] = take_more text 64 0 (omega arith) in
+    let line : take 65 text ≡ take 64 text ++ 10 ∷ [] = cut ∙ ap (λ (b : ℕ). take 64 text ++ b ∷ []) feed in
+    ap (scan (To (Line 0))) line ∙ full_line_scans (take 64 text) all (omega (arith, length-take 64 text))
 
 one_line : (bytes rest : List ℕ) → length bytes < 48 → IsBytes bytes → scan (To (Line 0)) (body_lines bytes ++ rest) ≡ Whole rest
 one_line bytes rest lt h =

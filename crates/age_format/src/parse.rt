@@ -69,7 +69,7 @@ fn push_line(engine: &GeneralPurpose, line: &[u8], body: &mut Vec<u8>) -> Result
     requires { IsLineEngine engine.now }
     ensures value { IfOk result (λ spells. MatchBool spells
         ((bytes : List ℕ) × (decoded_of engine.now line.now ≡ Some bytes) × (body.new.items ≡ body.old.items ++ bytes))
-        (decoded_of engine.now line.now ≡ None)) }
+        ((decoded_of engine.now line.now ≡ None) × (body.new.items ≡ body.old.items))) }
     ensures bytes { OnOk result (IsBytes body.new.items) }
 {
     match engine.decode_vec(line, body) {
@@ -77,6 +77,26 @@ fn push_line(engine: &GeneralPurpose, line: &[u8], body: &mut Vec<u8>) -> Result
         Err(DecodeAllocError::DecodeError(_)) => Ok(false),
         Err(DecodeAllocError::OutOfMemory) => Err(AllocError),
     }
+}
+
+/// Appends what the full lines at the front of a text spell, each in one call, and answers what follows
+/// them.
+fn push_full_lines<'a>(
+    engine: &GeneralPurpose,
+    text: &'a [u8],
+    body: &mut Vec<u8>,
+) -> Result<&'a [u8], AllocError>
+    requires { IsLineEngine engine.now }
+    ensures { IfOk result (λ rest. lines_from engine.now body.new.items [] rest.now ≡ lines_from engine.now body.old.items [] text.now) }
+{
+    let mut rest = text;
+    while rest.len() > LINE_LEN && rest[LINE_LEN] == b'\n' {
+        if !push_line(engine, &rest[..LINE_LEN], body)? {
+            break;
+        }
+        rest = &rest[LINE_LEN + 1..];
+    }
+    Ok(rest)
 }
 
 /// The body that the lines at the front of the text spell, and what follows its last line.
@@ -90,9 +110,10 @@ fn body_at<'a>(
     ensures bytes { IfOk result (λ found. IfSome found (λ x. IsBytes x.0.items)) }
 {
     let mut body = Vec::new(alloc);
+    let last = push_full_lines(engine, text, &mut body)?;
     let mut start = 0;
-    for (i, &byte) in text.iter().enumerate() {
-        let line = &text[start..i];
+    for (i, &byte) in last.iter().enumerate() {
+        let line = &last[start..i];
         if byte != b'\n' {
             if line.len() == LINE_LEN {
                 return Ok(None);
@@ -103,7 +124,7 @@ fn body_at<'a>(
             return Ok(None);
         }
         if line.len() < LINE_LEN {
-            return Ok(Some((body, &text[i + 1..])));
+            return Ok(Some((body, &last[i + 1..])));
         }
         start = i + 1;
     }

@@ -23,8 +23,8 @@ const PIECE_LEN: usize = 4096;
 
 /// A reader of stanzas. It holds what it read and didn't give yet.
 ///
-/// No byte is looked for the end of a stanza twice, and none is moved twice: what was given is
-/// dropped when the next piece is read.
+/// No byte but those of a last line is looked for the end of a stanza twice, and none is moved twice:
+/// what was given is dropped when the next piece is read.
 #[derive(Drop)]
 pub struct StanzaReader {
     alloc: Global,

@@ -1,12 +1,16 @@
-//! The scan of a growing text for the end of its first stanza. No byte is scanned twice.
+//! The scan of a growing text for the end of its first stanza. A call goes on where the last one came to.
 
-ghost use Rattle.std.specs.Prelude.{◌≡◌, ◌==◌, if◌then◌else◌, ℕ, List, length};
+ghost use Rattle.std.specs.Prelude.{◌≡◌, ◌==◌, ◌≤◌, if◌then◌else◌, ℕ, List, length, take, IsTrue};
+ghost use Rattle.std.specs.List.{list_all};
 ghost use Rattle.age_format.specs.private.Parse.{is_visible};
-ghost use Rattle.age_format.specs.private.Scan.{is_character, step, scan, IsScannedTo, Whole, Broken};
-ghost use Rattle.age_format.specs.declared.scan.Place.TheVariants.{Start};
+ghost use Rattle.age_format.specs.private.Scan.{is_character, step, scan, IsScannedTo, At, Whole, Broken};
+ghost use Rattle.age_format.specs.declared.scan.Place.TheVariants.{Start, Line};
 ghost use Rattle.age_format.specs.declared.scan.Step.TheVariants.{To};
 
 use crate::parse::{LINE_LEN, is_visible};
+
+/// How many bytes a full line of a body has, with its line feed.
+const FULL_LINE_LEN: usize = 65;
 
 /// Where in a stanza the next byte stands.
 #[derive(Clone, Copy, Debug, PartialEq, Eq)]
@@ -59,6 +63,35 @@ fn is_character(byte: u8) -> bool
     ensures { result ≡ is_character byte }
 {
     matches!(byte, b'A'..=b'Z' | b'a'..=b'z' | b'0'..=b'9' | b'+' | b'/')
+}
+
+/// Whether all bytes are of the 64 characters. It goes over all of them with no branch, so that the
+/// compiler tests many at once.
+fn are_characters(bytes: &[u8]) -> bool
+    ensures { result ≡ list_all is_character bytes.now }
+{
+    let mut all = true;
+    for &byte in bytes {
+        all &= is_character(byte);
+    }
+    all
+}
+
+/// Whether a text begins with a full line of a body and its line feed.
+fn begins_with_full_line(text: &[u8]) -> bool
+    ensures { IsTrue result → (FULL_LINE_LEN ≤ length text.now) × (scan (To (Line 0)) (take FULL_LINE_LEN text.now) ≡ At (Line 0)) }
+{
+    if text.len() < FULL_LINE_LEN {
+        return false;
+    }
+    text[LINE_LEN] == b'\n' && are_characters(&text[..LINE_LEN])
+}
+
+/// Whether a line of a body begins at the place.
+fn begins_line(place: Place) -> bool
+    ensures { IsTrue result → place ≡ Place.Line 0 }
+{
+    matches!(place, Place::Line(0))
 }
 
 /// What a byte of a header line is, behind another byte of a tag or an argument.
@@ -132,6 +165,10 @@ pub(crate) fn scan_on(text: &[u8], from: Scan) -> (Scan, Stop)
         mut place,
     } = from;
     while seen < text.len() {
+        if begins_line(place) && begins_with_full_line(&text[seen..]) {
+            seen += FULL_LINE_LEN;
+            continue;
+        }
         match step_at(place, text[seen]) {
             Step::To(next) => {
                 place = next;

@@ -5,13 +5,13 @@ use Rattle.age_format.proofs.parse.body_at.Goals as goal
 
 pub returns-then-line-eq-LINE_LEN-clause-value : goal.returns-then-line-eq-LINE_LEN-clause-value
 returns-then-line-eq-LINE_LEN-clause-value c =
-    let text = c.args.text.now in
+    let text = c.in_ok-last.last.now in
     let line = take (c.loop-i.i - c.loop-i.start) (drop c.loop-i.start text) in
     sym (lines_long c.args.engine.now text c.loop-i.i c.loop-i.body.items line (omega arith) c.if-byte-ne10.true c.if-line-eq-LINE_LEN.true) ∙ c.loop-i.invariant.same
 
 pub loop-i-preserved-then-byte-ne10 : goal.loop-i-preserved-then-byte-ne10
 loop-i-preserved-then-byte-ne10 c =
-    let text = c.args.text.now in
+    let text = c.in_ok-last.last.now in
     let line = take (c.loop-i.i - c.loop-i.start) (drop c.loop-i.start text) in
     let step = lines_more c.args.engine.now text c.loop-i.i c.loop-i.body.items line (omega arith) c.if-byte-ne10.true c.if-line-eq-LINE_LEN.false in
     let short = c.if-line-eq-LINE_LEN.false in
@@ -24,19 +24,19 @@ loop-i-preserved-then-byte-ne10 c =
 
 pub returns-clause-value : goal.returns-clause-value
 returns-clause-value c =
-    let text = c.args.text.now in
+    let text = c.in_ok-last.last.now in
     sym (lines_out c.args.engine.now text c.loop-i.i c.loop-i.body.items (take (c.loop-i.i - c.loop-i.start) (drop c.loop-i.start text)) (omega arith)) ∙ c.loop-i.invariant.same
 
 pub returns-then-not-branch-clause-value : goal.returns-then-not-branch-clause-value
 returns-then-not-branch-clause-value c =
-    let text = c.args.text.now in
+    let text = c.in_ok-last.last.now in
     let line = take (c.loop-i.i - c.loop-i.start) (drop c.loop-i.start text) in
     let bad = rw c.if-not-branch.true at c.in_ok-push_line.ensures.value in
-    sym (lines_bad c.args.engine.now text c.loop-i.i c.loop-i.body.items line (omega arith) c.if-byte-ne10.false bad) ∙ c.loop-i.invariant.same
+    sym (lines_bad c.args.engine.now text c.loop-i.i c.loop-i.body.items line (omega arith) c.if-byte-ne10.false bad.0) ∙ c.loop-i.invariant.same
 
 pub returns-then-line-lt-LINE_LEN-clause-value : goal.returns-then-line-lt-LINE_LEN-clause-value
 returns-then-line-lt-LINE_LEN-clause-value c =
-    let text = c.args.text.now in
+    let text = c.in_ok-last.last.now in
     let line = take (c.loop-i.i - c.loop-i.start) (drop c.loop-i.start text) in
     let good = rw c.if-not-branch.false at c.in_ok-push_line.ensures.value in
     let short : length line ≢ 64 = let h = c.if-line-lt-LINE_LEN.true in omega arith in
@@ -45,7 +45,7 @@ returns-then-line-lt-LINE_LEN-clause-value c =
 
 pub loop-i-preserved : goal.loop-i-preserved
 loop-i-preserved c =
-    let text = c.args.text.now in
+    let text = c.in_ok-last.last.now in
     let line = take (c.loop-i.i - c.loop-i.start) (drop c.loop-i.start text) in
     let good = rw c.if-not-branch.false at c.in_ok-push_line.ensures.value in
     let full : length line ≡ 64 = let h = c.if-line-lt-LINE_LEN.false in omega (arith, length-take (c.loop-i.i - c.loop-i.start) (drop c.loop-i.start text)) in

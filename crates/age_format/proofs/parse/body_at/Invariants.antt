@@ -7,5 +7,5 @@ abbrev pub invariant-loop-i : goal.invariant-loop-i
 invariant-loop-i l = record {
   order : l.start ≤ l.i;
   within : l.i ≤ l.start + 64;
-  same : lines_from l.engine l.body.items (take (l.i - l.start) (drop l.start l.text)) (drop l.i l.text) ≡ lines_from l.engine [] [] l.text;
+  same : lines_from l.engine l.body.items (take (l.i - l.start) (drop l.start l.last)) (drop l.i l.last) ≡ lines_from l.engine [] [] l.text;
 }

@@ -15,7 +15,7 @@ returns-in-Ok-clause-value c =
 
 pub returns-in-Err-DecodeError-clause-value : goal.returns-in-Err-DecodeError-clause-value
 unfolding decoded_of
-returns-in-Err-DecodeError-clause-value c = ap result_ok (rw c.in-Err-DecodeError.field-0-is at c.in-Err-DecodeError.ensures.err)
+returns-in-Err-DecodeError-clause-value c = (ap result_ok (rw c.in-Err-DecodeError.field-0-is at c.in-Err-DecodeError.ensures.err), c.in-Err-DecodeError.ensures.same)
 
 pub returns-in-Ok-clause-bytes : goal.returns-in-Ok-clause-bytes
 returns-in-Ok-clause-bytes c = bytes_from _ c.type_inv.body
