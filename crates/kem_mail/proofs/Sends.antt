@@ -6,9 +6,9 @@ use Rattle.rand_core.specs.Stream.{Stream}
 use Rattle.age_format.specs.Outside.{Gains, GainsPart, Rose, Wrote, WrotePart}
 use Rattle.age_format.specs.Stanza.{Stanza}
 use Rattle.age_format.specs.declared.error.PhaseError.{PhaseError}
-use Rattle.age_format.specs.declared.error.PhaseError.TheVariants.{NoMemory as PhaseNoMemory, WriteFault as PhaseWriteFault, ReadFault as PhaseReadFault, InvalidData as PhaseInvalidData, UnexpectedEof as PhaseUnexpectedEof, TooMuch as PhaseTooMuch}
+use Rattle.age_format.specs.declared.error.PhaseError.TheVariants.{NoMemory as PhaseNoMemory, WriteFault as PhaseWriteFault, ReadFault as PhaseReadFault, InvalidData as PhaseInvalidData, UnexpectedEof as PhaseUnexpectedEof, TooMuch as PhaseTooMuch, UnexpectedReply as PhaseUnexpectedReply}
 use Rattle.age_send.specs.Sending.{AfterGrease, SendFailed, SendRanOut, Sent, first_roll, rolled_text, second_roll, sent_text, text_behind}
-use Rattle.kem_mail.specs.Causes.{of_send}
+use Rattle.kem_mail.specs.private.Causes.{of_send}
 use Rattle.kem_mail.specs.Sent.{AllAfterGrease, FailedAt, RanOutAt, SentAll, behind_sends, stanzas_text}
 use Rattle.kem_mail.specs.private.Sends.{Sends}
 use Rattle.kem_mail.specs.declared.error.SealMailError.{SealMailError}
@@ -159,6 +159,7 @@ module _ {W : Type 0} (got : W → Option (List ℕ)) (faults : W → ℕ) (plan
   sends_alone a b s stream rest (Err PhaseInvalidData) sent greased fault memory only = absurd (elim only [ inl e ↦ cc | inr e ↦ cc ])
   sends_alone a b s stream rest (Err PhaseUnexpectedEof) sent greased fault memory only = absurd (elim only [ inl e ↦ cc | inr e ↦ cc ])
   sends_alone a b s stream rest (Err PhaseTooMuch) sent greased fault memory only = absurd (elim only [ inl e ↦ cc | inr e ↦ cc ])
+  sends_alone a b s stream rest (Err (PhaseUnexpectedReply tag)) sent greased fault memory only = absurd (elim only [ inl e ↦ cc | inr e ↦ cc ])
 
   module _ (a b c : W) (xs ys : List Stanza) (first second rest : Stream) (h : SentAll got faults plan a b xs first second) where
     text_both : List ℕ

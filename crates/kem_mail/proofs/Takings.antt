@@ -1,6 +1,6 @@
 -- What was taken of a source for the stanzas of a mail.
 use Rattle.std.proofs.Common.{◌≡◌, ◌≢◌, ℕ, ◌+◌, ◌<◌, ◌≤◌, List, [], ◌∷◌, ◌++◌, length, Option, Some, None, refl, sym, ap, subst, ◌∙◌, append_assoc, ◌⊎◌, inl, inr, arith}
-use Rattle.std.specs.Prelude.{IfSome, Result, Ok, Err, codes}
+use Rattle.std.specs.Prelude.{IfErr, IfSome, Result, Ok, Err, codes}
 use Rattle.std.specs.List.{flat_map, AllByRecursion}
 use Rattle.std.proofs.lemmas.Bool.{cases_lt}
 use Rattle.std.proofs.lemmas.List.{append-nil, length-append}
@@ -10,15 +10,15 @@ use Rattle.age_format.specs.Front.{BeginsNone, IsMalformed}
 use Rattle.age_format.specs.Reading.{IsDone, NoneDone, HasNoDone, Reads, Reading, Before_done, Invalid_data, Unexpected_eof, Too_much}
 use Rattle.age_format.specs.Receiving.{Held, Took, Receives, fresh}
 use Rattle.age_format.specs.declared.error.PhaseError.{PhaseError}
-use Rattle.age_format.specs.declared.error.PhaseError.TheVariants.{NoMemory as PhaseNoMemory, WriteFault as PhaseWriteFault, ReadFault as PhaseReadFault, InvalidData as PhaseInvalidData, UnexpectedEof as PhaseUnexpectedEof, TooMuch as PhaseTooMuch}
+use Rattle.age_format.specs.declared.error.PhaseError.TheVariants.{NoMemory as PhaseNoMemory, WriteFault as PhaseWriteFault, ReadFault as PhaseReadFault, InvalidData as PhaseInvalidData, UnexpectedEof as PhaseUnexpectedEof, TooMuch as PhaseTooMuch, UnexpectedReply as PhaseUnexpectedReply}
 use Rattle.age_format.proofs.Stanzas.{the_same_stanza}
 use Rattle.age_format.proofs.Dones.{none_done-push}
 use Rattle.age_format.proofs.Receipts.{front_begins_none, receives_none, receives_both, receives_unpaid, reads_done, reads_invalid, reads_ended, reads_spent}
 use Rattle.kem_mail.specs.Taken.{Lost, IsShortBehindDone, StoppedBy}
-use Rattle.kem_mail.specs.Causes.{of_phase}
+use Rattle.kem_mail.specs.private.Causes.{ComesOf}
 use Rattle.kem_mail.specs.private.Opening.{IsRead, IsRefusedFor, ReadTaken}
 use Rattle.kem_mail.specs.declared.error.MailError.{MailError}
-use Rattle.kem_mail.specs.declared.error.MailError.TheVariants.{NoMemory, ReadFault, UnexpectedEof}
+use Rattle.kem_mail.specs.declared.error.MailError.TheVariants.{NoMemory, ReadFault, InvalidData, UnexpectedEof, TooMuch}
 
 -- the spellings of a stanza and of those after it
 cons_text : (s : Stanza) (ss : List Stanza) (more : List ℕ) → flat_map spelling (s ∷ ss) ++ more ≡ spelling s ++ (flat_map spelling ss ++ more)
@@ -198,37 +198,38 @@ module _ (budget : ℕ) (now : Held) (l m : Option (List ℕ)) (stanzas : List S
   no_done : BeginsNone now.bytes → HasNoDone r.taken now.bytes
   no_done none = record { stanzas = stanzas; splits = record { whole = r.whole; each = r.each; longest = none }; none_done = none_done }
 
-  stopped_by : (phase : PhaseError) (mid : Option (List ℕ)) → Refused phase now mid m → StoppedBy (Err (of_phase phase)) budget r.taken
-  stopped_by PhaseNoMemory mid refused = tt
-  stopped_by PhaseWriteFault mid refused = tt
-  stopped_by PhaseReadFault mid refused =
+  stopped_by : (phase : PhaseError) (error : MailError) (mid : Option (List ℕ)) → ComesOf phase error → Refused phase now mid m → StoppedBy (Err error) budget r.taken
+  stopped_by PhaseNoMemory error mid is refused = rw is tt
+  stopped_by PhaseReadFault error mid is refused =
       let said = refused.read_fault refl in
       let p = r.paid in
-      ((now.bytes, no_done (front_begins_none now.bytes said.0), said.0), omega (arith, p, said.1))
-  stopped_by PhaseInvalidData mid refused =
+      rw is ((now.bytes, no_done (front_begins_none now.bytes said.0), said.0), omega (arith, p, said.1))
+  stopped_by PhaseInvalidData error mid is refused =
       let bad = refused.invalid_data refl in
-      (now.bytes, no_done bad.begins_none, bad.no_front)
-  stopped_by PhaseUnexpectedEof mid refused =
+      rw is (now.bytes, no_done bad.begins_none, bad.no_front)
+  stopped_by PhaseUnexpectedEof error mid is refused =
       let said = refused.unexpected_eof refl in
       let p = r.paid in
-      ((now.bytes, no_done (front_begins_none now.bytes said.0), said.0), omega (arith, p, said.1))
-  stopped_by PhaseTooMuch mid refused =
+      rw is ((now.bytes, no_done (front_begins_none now.bytes said.0), said.0), omega (arith, p, said.1))
+  stopped_by PhaseTooMuch error mid is refused =
       let said = refused.too_much refl in
       let p = r.paid in
-      ((now.bytes, no_done (front_begins_none now.bytes said.0), said.0), omega (arith, p, said.1))
+      rw is ((now.bytes, no_done (front_begins_none now.bytes said.0), said.0), omega (arith, p, said.1))
+  stopped_by PhaseWriteFault error mid is refused = absurd is
+  stopped_by (PhaseUnexpectedReply tag) error mid is refused = absurd is
 
 joined : (budget : ℕ) (now next : Held) (l m n : Option (List ℕ)) (stanzas : List Stanza) → Receives (fresh budget) now l m stanzas → Receives now next m n [] → Receives (fresh budget) next l n stanzas
 joined budget now next l m n stanzas r kept = subst (λ (ss : List Stanza). Receives (fresh budget) next l n ss) (append-nil stanzas) (receives_both (fresh budget) now next l m n stanzas [] r kept)
 
-pub taken_refused : {X : Type 0} (budget : ℕ) (now next : Held) (l m n : Option (List ℕ)) (stanzas : List Stanza) (phase : PhaseError) (result : Result X MailError) → result ≡ Err (of_phase phase)
-    → Given budget now l m stanzas → Receives now next m n [] → ((IsFront now.bytes → ⊥) → n ≡ m) → (BeginsNone now.bytes → ShortBehind next.bytes) → Refused phase next m n → Lost l n (ReadTaken budget result)
-taken_refused budget now next None m n stanzas phase result is given kept unread behind refused = tt
-taken_refused budget now next (Some text) m n stanzas phase result is given kept unread behind refused =
+pub taken_refused : (X : Type 0) (budget : ℕ) (now next : Held) (l m n : Option (List ℕ)) (stanzas : List Stanza) (phase : PhaseError) (error : MailError) → ComesOf phase error
+    → Given budget now l m stanzas → Receives now next m n [] → ((IsFront now.bytes → ⊥) → n ≡ m) → (BeginsNone now.bytes → ShortBehind next.bytes) → Refused phase next m n → Lost l n (ReadTaken {X = X} budget (Err error))
+taken_refused X budget now next None m n stanzas phase error is given kept unread behind refused = tt
+taken_refused X budget now next (Some text) m n stanzas phase error is given kept unread behind refused =
     let r = joined budget now next (Some text) m n stanzas given.received kept in
     lost text r.taken n r.told (record {
       within = within_budget budget next (Some text) n stanzas r;
       behind = behind_held budget next (Some text) n stanzas r given.none_done (still_short_behind budget now next m n stanzas unread (Some text) given kept behind);
-      stopped = rw is (stopped_by budget next (Some text) n stanzas r given.none_done phase m refused);
+      stopped = stopped_by budget next (Some text) n stanzas r given.none_done phase error m is refused;
     })
 
 -- what a source that tells its bytes does at its end
@@ -243,6 +244,7 @@ module _ (budget : ℕ) (next : Held) (m n : Option (List ℕ)) (stanzas : List 
       → (phase ≡ PhaseUnexpectedEof → n ≡ Some []) → Refused phase next m n → IsRefusedFor phase text budget
   refused_reads text PhaseNoMemory r none ended refused = tt
   refused_reads text PhaseWriteFault r none ended refused = tt
+  refused_reads text (PhaseUnexpectedReply tag) r none ended refused = tt
   refused_reads text PhaseReadFault r none ended refused = tt
   refused_reads text PhaseInvalidData r none ended refused = from_fresh text budget Invalid_data (reads_invalid (fresh budget) next text n stanzas r none (refused.invalid_data refl))
   refused_reads text PhaseUnexpectedEof r none ended refused =
@@ -252,14 +254,13 @@ module _ (budget : ℕ) (next : Held) (m n : Option (List ℕ)) (stanzas : List 
       let said = refused.too_much refl in
       from_fresh text budget Too_much (reads_spent (fresh budget) next text n stanzas r none said.0 said.1)
 
-pub read_refused : {X : Type 0} (view : X → List Stanza) (budget : ℕ) (now next : Held) (l m n : Option (List ℕ)) (stanzas : List Stanza) (phase : PhaseError) (result : Result X MailError) → result ≡ Err (of_phase phase)
-    → Given budget now l m stanzas → Receives now next m n [] → Refused phase next m n → IfSome l (λ text. IsRead view text budget result)
-read_refused view budget now next None m n stanzas phase result is given kept refused = tt
-read_refused view budget now next (Some text) m n stanzas phase result is given kept refused =
-    let r = joined budget now next (Some text) m n stanzas given.received kept in
-    rw is (
+pub read_refused : {X : Type 0} (view : X → List Stanza) (budget : ℕ) (now next : Held) (l m n : Option (List ℕ)) (stanzas : List Stanza) (phase : PhaseError) (error : MailError) → ComesOf phase error
+    → Given budget now l m stanzas → Receives now next m n [] → Refused phase next m n → IfSome l (λ text. IsRead view text budget (Err error))
+read_refused view budget now next None m n stanzas phase error is given kept refused = tt
+read_refused view budget now next (Some text) m n stanzas phase error is given kept refused =
+    let r = joined budget now next (Some text) m n stanzas given.received kept in (
       phase,
-      refl,
+      is,
       refused_reads budget next m n stanzas text phase r given.none_done
           (λ eof. at_left (Some text) m text given.received.taken given.received.told (refused.unexpected_eof eof).2) refused,
     )
@@ -268,32 +269,32 @@ pub read_unheld : {X : Type 0} (view : X → List Stanza) (budget : ℕ) (l : Op
 read_unheld view budget None result is = tt
 read_unheld view budget (Some text) result is = rw is (PhaseNoMemory, refl, tt)
 
-ended_phase : (phase : PhaseError) → of_phase phase ≡ UnexpectedEof → phase ≡ PhaseUnexpectedEof
-ended_phase PhaseNoMemory e = absurd cc
-ended_phase PhaseWriteFault e = absurd cc
-ended_phase PhaseReadFault e = absurd cc
-ended_phase PhaseInvalidData e = absurd cc
-ended_phase PhaseUnexpectedEof e = refl
-ended_phase PhaseTooMuch e = absurd cc
-
-fault_phase : (phase : PhaseError) → of_phase phase ≡ ReadFault → phase ≡ PhaseReadFault
-fault_phase PhaseNoMemory e = absurd cc
-fault_phase PhaseWriteFault e = absurd cc
-fault_phase PhaseReadFault e = refl
-fault_phase PhaseInvalidData e = absurd cc
-fault_phase PhaseUnexpectedEof e = absurd cc
-fault_phase PhaseTooMuch e = absurd cc
-
-same_error : {X : Type 0} (a b : MailError) → ◌≡◌ {A = Result X MailError} (Err a) (Err b) → a ≡ b
-same_error a b e = cc
+pub refused_unheld : {X : Type 0} (result : Result X MailError) → result ≡ Err NoMemory → IfErr result (λ e. (phase : PhaseError) × ComesOf phase e)
+refused_unheld result is = rw is (PhaseNoMemory, refl)
 
 -- a refusal for the end is the phase's
-pub phase_ended : {X : Type 0} (phase : PhaseError) (result : Result X MailError) → result ≡ Err (of_phase phase) → result ≡ Err UnexpectedEof → phase ≡ PhaseUnexpectedEof
-phase_ended phase result is e = ended_phase phase (same_error (of_phase phase) UnexpectedEof (sym is ∙ e))
+pub phase_ended : (phase : PhaseError) (error : MailError) → ComesOf phase error → error ≡ UnexpectedEof → phase ≡ PhaseUnexpectedEof
+phase_ended PhaseNoMemory error is e = absurd (cc)
+phase_ended PhaseReadFault error is e = absurd (cc)
+phase_ended PhaseInvalidData error is e = absurd (cc)
+phase_ended PhaseUnexpectedEof error is e = refl
+phase_ended PhaseTooMuch error is e = absurd (cc)
+phase_ended PhaseWriteFault error is e = absurd is
+phase_ended (PhaseUnexpectedReply tag) error is e = absurd is
 
 -- a refusal for a fault is the phase's
-pub phase_fault : {X : Type 0} (phase : PhaseError) (result : Result X MailError) → result ≡ Err (of_phase phase) → result ≡ Err ReadFault → phase ≡ PhaseReadFault
-phase_fault phase result is e = fault_phase phase (same_error (of_phase phase) ReadFault (sym is ∙ e))
+pub phase_fault : (phase : PhaseError) (error : MailError) → ComesOf phase error → error ≡ ReadFault → phase ≡ PhaseReadFault
+phase_fault PhaseNoMemory error is e = absurd (cc)
+phase_fault PhaseReadFault error is e = refl
+phase_fault PhaseInvalidData error is e = absurd (cc)
+phase_fault PhaseUnexpectedEof error is e = absurd (cc)
+phase_fault PhaseTooMuch error is e = absurd (cc)
+phase_fault PhaseWriteFault error is e = absurd is
+phase_fault (PhaseUnexpectedReply tag) error is e = absurd is
+
+-- and the other way round
+pub fault_comes : (phase : PhaseError) (error : MailError) → ComesOf phase error → phase ≡ PhaseReadFault → error ≡ ReadFault
+fault_comes phase error is same = subst (λ (p : PhaseError). ComesOf p error) same is
 
 pub left_ended : (budget : ℕ) (now : Held) (l m n : Option (List ℕ)) (stanzas : List Stanza) → Given budget now l m stanzas → IfSome m (λ _. n ≡ Some []) → IfSome l (λ _. n ≡ Some [])
 left_ended budget now None m n stanzas given ended = tt

@@ -4,13 +4,13 @@ use Rattle.std.specs.Prelude.{◌==◌, if◌then◌else◌, Bool, false, IfSome
 use Rattle.age_format.specs.Stanza.{Stanza}
 use Rattle.age_format.specs.Reading.{Reading, Reads, Before_done, Invalid_data, Unexpected_eof, Too_much}
 use Rattle.age_format.specs.declared.error.PhaseError.{PhaseError}
-use Rattle.age_format.specs.declared.error.PhaseError.TheVariants.{NoMemory as PhaseNoMemory, WriteFault as PhaseWriteFault, ReadFault as PhaseReadFault, InvalidData as PhaseInvalidData, UnexpectedEof as PhaseUnexpectedEof, TooMuch as PhaseTooMuch}
+use Rattle.age_format.specs.declared.error.PhaseError.TheVariants.{NoMemory as PhaseNoMemory, WriteFault as PhaseWriteFault, ReadFault as PhaseReadFault, InvalidData as PhaseInvalidData, UnexpectedEof as PhaseUnexpectedEof, TooMuch as PhaseTooMuch, UnexpectedReply as PhaseUnexpectedReply}
 use Rattle.age_format.proofs.Readings.{same_reading, some_reading}
 use Rattle.hpke.specs.Schedule.{Context}
 use Rattle.kem_mail.specs.Mail.{Verdict, IsVerdict, Opener, Opens, SameBodies, bodies, with_first, open_at, opened, opened_with, judged_bodies, judged}
 use Rattle.kem_mail.specs.Taken.{Lost, HoldsDone, StoppedBy, IsTaken}
-use Rattle.kem_mail.specs.Causes.{of_phase}
 use Rattle.kem_mail.specs.private.Answers.{Judges}
+use Rattle.kem_mail.specs.private.Causes.{ComesOf}
 use Rattle.kem_mail.specs.private.Opening.{IsRead, IsRefusedFor, ReadTaken}
 use Rattle.kem_mail.specs.declared.error.MailError.{MailError}
 use Rattle.kem_mail.specs.declared.error.MailError.TheVariants.{NoMemory, ReadFault, XofExhausted, InvalidData, UnexpectedEof, TooMuch, IncorrectInputLength, OpenError}
@@ -179,46 +179,55 @@ done_taken opener stanzas result judges key (Some text) m budget x taken =
 -- ---- where there are no stanzas
 
 module _ {X : Type 0} (view : X → List Stanza) (opener : Opener) where
-  refused_as : (text : List ℕ) (budget : ℕ) (phase : PhaseError) → IsRefusedFor phase text budget → IsVerdict (Err (of_phase phase)) → Opens opener text budget (Err (of_phase phase))
-  refused_as text budget PhaseNoMemory read is = absurd (is.0 refl)
-  refused_as text budget PhaseWriteFault read is = absurd (is.0 refl)
-  refused_as text budget PhaseReadFault read is = absurd (is.1 refl)
-  refused_as text budget PhaseInvalidData read is = record { reading = Invalid_data; reads = read; verdict_is = refl }
-  refused_as text budget PhaseUnexpectedEof read is = record { reading = Unexpected_eof; reads = read; verdict_is = refl }
-  refused_as text budget PhaseTooMuch read is = record { reading = Too_much; reads = read; verdict_is = refl }
+  refused_as : (text : List ℕ) (budget : ℕ) (phase : PhaseError) (error : MailError) → ComesOf phase error → IsRefusedFor phase text budget → IsVerdict (Err error) → Opens opener text budget (Err error)
+  refused_as text budget PhaseNoMemory error same read is = absurd (is.0 (ap Err same))
+  refused_as text budget PhaseReadFault error same read is = absurd (is.1 (ap Err same))
+  refused_as text budget PhaseInvalidData error same read is = record { reading = Invalid_data; reads = read; verdict_is = ap Err same }
+  refused_as text budget PhaseUnexpectedEof error same read is = record { reading = Unexpected_eof; reads = read; verdict_is = ap Err same }
+  refused_as text budget PhaseTooMuch error same read is = record { reading = Too_much; reads = read; verdict_is = ap Err same }
+  refused_as text budget PhaseWriteFault error same read is = absurd same
+  refused_as text budget (PhaseUnexpectedReply tag) error same read is = absurd same
 
   -- the refusal is the mail's verdict
   pub refused_opens : (l : Option (List ℕ)) (budget : ℕ) (e : MailError) → IfSome l (λ text. IsRead view text budget (Err e)) → IfSome l (λ text. IsVerdict (Err e) → Opens opener text budget (Err e))
   refused_opens None budget e read = tt
-  refused_opens (Some text) budget e (phase, same, read) = rw same (refused_as text budget phase read)
+  refused_opens (Some text) budget e (phase, same, read) = refused_as text budget phase e same read
 
-  complete_refused : (text : List ℕ) (budget : ℕ) (phase : PhaseError) (v : Verdict) → IsRefusedFor phase text budget → Opens opener text budget v → of_phase phase ≢ ReadFault
-      → (Err (of_phase phase) ≡ v) ⊎ (◌≡◌ {A = Verdict} (Err (of_phase phase)) (Err NoMemory))
-  complete_refused text budget PhaseNoMemory v read opens calm = inr refl
-  complete_refused text budget PhaseWriteFault v read opens calm = inr refl
-  complete_refused text budget PhaseReadFault v read opens calm = absurd (calm refl)
-  complete_refused text budget PhaseInvalidData v read opens calm = inl (same_verdict opener text budget (Err InvalidData) v (refused_as text budget PhaseInvalidData read ((λ e. cc e), (λ e. cc e))) opens)
-  complete_refused text budget PhaseUnexpectedEof v read opens calm = inl (same_verdict opener text budget (Err UnexpectedEof) v (refused_as text budget PhaseUnexpectedEof read ((λ e. cc e), (λ e. cc e))) opens)
-  complete_refused text budget PhaseTooMuch v read opens calm = inl (same_verdict opener text budget (Err TooMuch) v (refused_as text budget PhaseTooMuch read ((λ e. cc e), (λ e. cc e))) opens)
+  -- an error that is want of memory, a fault of the source or a verdict
+  memory_or : (phase : PhaseError) (error : MailError) → ComesOf phase error → error ≢ ReadFault → (error ≡ NoMemory) ⊎ IsVerdict (Err error)
+  memory_or PhaseNoMemory error same calm = inl same
+  memory_or PhaseReadFault error same calm = absurd (calm same)
+  memory_or PhaseInvalidData error same calm = inr ((λ e. cc), (λ e. cc))
+  memory_or PhaseUnexpectedEof error same calm = inr ((λ e. cc), (λ e. cc))
+  memory_or PhaseTooMuch error same calm = inr ((λ e. cc), (λ e. cc))
+  memory_or PhaseWriteFault error same calm = absurd same
+  memory_or (PhaseUnexpectedReply tag) error same calm = absurd same
+
+  complete_refused : (text : List ℕ) (budget : ℕ) (phase : PhaseError) (error : MailError) (v : Verdict) → ComesOf phase error → IsRefusedFor phase text budget → Opens opener text budget v → error ≢ ReadFault
+      → (Err error ≡ v) ⊎ (◌≡◌ {A = Verdict} (Err error) (Err NoMemory))
+  complete_refused text budget phase error v same read opens calm = elim (memory_or phase error same calm) [
+    | inl memory ↦ inr (ap Err memory)
+    | inr is ↦ inl (same_verdict opener text budget (Err error) v (refused_as text budget phase error same read is) opens)
+  ]
 
   -- the mail's verdict is the refusal
   pub refused_complete : (R : Type 0) (l : Option (List ℕ)) (budget : ℕ) (e : MailError) → IfSome l (λ text. IsRead view text budget (Err e)) → (e ≡ ReadFault → R)
       → IfSome l (λ text. (v : Verdict) → Opens opener text budget v → (R → ⊥) → (Err e ≡ v) ⊎ (◌≡◌ {A = Verdict} (Err e) (Err NoMemory)))
   refused_complete R None budget e read rose = tt
-  refused_complete R (Some text) budget e (phase, same, read) rose = λ v opens calm.
-      subst (λ (x : MailError). (Err x ≡ v) ⊎ (◌≡◌ {A = Verdict} (Err x) (Err NoMemory))) (sym same) (complete_refused text budget phase v read opens (λ fault. calm (rose (same ∙ fault))))
-
-phase_has_key : (phase : PhaseError) → of_phase phase ≢ XofExhausted
-phase_has_key PhaseNoMemory e = cc e
-phase_has_key PhaseWriteFault e = cc e
-phase_has_key PhaseReadFault e = cc e
-phase_has_key PhaseInvalidData e = cc e
-phase_has_key PhaseUnexpectedEof e = cc e
-phase_has_key PhaseTooMuch e = cc e
+  refused_complete R (Some text) budget e (phase, same, read) rose = λ v opens calm. complete_refused text budget phase e v same read opens (λ fault. calm (rose fault))
 
 -- no phase refuses for want of a key
-pub refused_has_key : (e : MailError) → ((phase : PhaseError) × (e ≡ of_phase phase)) → e ≢ XofExhausted
-refused_has_key e is same = phase_has_key is.0 (sym is.1 ∙ same)
+phase_has_key : (phase : PhaseError) (error : MailError) → ComesOf phase error → error ≢ XofExhausted
+phase_has_key PhaseNoMemory error is e = cc
+phase_has_key PhaseReadFault error is e = cc
+phase_has_key PhaseInvalidData error is e = cc
+phase_has_key PhaseUnexpectedEof error is e = cc
+phase_has_key PhaseTooMuch error is e = cc
+phase_has_key PhaseWriteFault error is e = absurd is
+phase_has_key (PhaseUnexpectedReply tag) error is e = absurd is
+
+pub refused_has_key : (e : MailError) → ((phase : PhaseError) × ComesOf phase e) → e ≢ XofExhausted
+refused_has_key e (phase, is) = phase_has_key phase e is
 
 -- what was taken for a refusal of the stanzas was taken for the answer
 pub refused_taken : (X : Type 0) (l m : Option (List ℕ)) (budget : ℕ) (e : MailError) → Lost l m (ReadTaken {X = X} budget (Err e)) → Lost l m (IsTaken budget (Err e))

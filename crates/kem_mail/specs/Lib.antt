@@ -6,7 +6,7 @@ pub mod Sealing
 pub mod Sent
 -- the text of a mail as a sender writes it
 pub mod SenderText
--- which error of a mail comes of another crate's
+-- which error of a mail comes of a refused key
 pub mod Causes
 -- what was taken of a source
 pub mod Taken

@@ -1,10 +1,9 @@
 //! Why a mail wasn't opened, or sealed and sent.
 
 ghost use Rattle.std.specs.Prelude.{◌≡◌};
-ghost use Rattle.kem_mail.specs.Causes.{of_phase, of_kem};
+ghost use Rattle.kem_mail.specs.Causes.{of_kem};
 ghost use Rattle.kem_mail.specs.declared.error.MailError.TheVariants.{NoMemory};
 
-use age_format::PhaseError;
 use ml_kem::KemError;
 use std::alloc::{AllocError, AllocFailed};
 use thiserror::Error;
@@ -54,20 +53,6 @@ impl<T: Drop> From<AllocFailed<T>> for MailError {
 
     fn from(_e: AllocFailed<T>) -> MailError {
         MailError::NoMemory
-    }
-}
-
-impl From<PhaseError> for MailError {
-    ghost from_gives = { λ p e. e ≡ of_phase p };
-
-    fn from(e: PhaseError) -> MailError {
-        match e {
-            PhaseError::NoMemory | PhaseError::WriteFault => MailError::NoMemory,
-            PhaseError::ReadFault => MailError::ReadFault,
-            PhaseError::InvalidData => MailError::InvalidData,
-            PhaseError::UnexpectedEof => MailError::UnexpectedEof,
-            PhaseError::TooMuch => MailError::TooMuch,
-        }
     }
 }
 

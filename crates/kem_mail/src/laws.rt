@@ -1,13 +1,14 @@
 //! Laws of the definitions, each as the contract of a function that does nothing.
 
-ghost use Rattle.std.specs.Prelude.{◌≡◌, ◌≤◌, ◌++◌, ℕ, List, length, Option, None, Some, Ok};
+ghost use Rattle.std.specs.Prelude.{◌≡◌, ◌≢◌, ◌≤◌, ◌++◌, ℕ, List, length, Option, None, Some, Ok};
 ghost use Rattle.kem_hash.specs.Family.{AreBytes, Family};
 ghost use Rattle.ml_kem.specs.Encapsulation.{decaps, encaps};
 ghost use Rattle.ml_kem.specs.Keys.{Key, key_of};
 ghost use Rattle.ml_kem.specs.Parameters.{IsSet, Parameters};
 ghost use Rattle.decryption_noise.specs.Noise.{AllInside, honest_coins, noise_of};
+ghost use Rattle.hpke.specs.Lattice.{lattice_decap, lattice_encap};
 ghost use Rattle.hpke.specs.Mask.{mask_decap, mask_encap, mask_public};
-ghost use Rattle.hpke.specs.Schedule.{KdfAlgorithm, AeadAlgorithm, Suite};
+ghost use Rattle.hpke.specs.Schedule.{KdfAlgorithm, AeadAlgorithm, Context, Mode, Suite, receiver_setup, sender_setup};
 ghost use Rattle.kem_mail.specs.Mail.{Opener, OpenMeaning, Opens, OpensByKey, IsVerdict, SameBodies, Verdict, opener_of};
 ghost use Rattle.kem_mail.specs.Sealing.{lattice_sealer, sealer_of};
 ghost use Rattle.kem_mail.specs.SenderText.{SenderText};
@@ -65,4 +66,27 @@ pub fn honest_mail_opens<A: Aead>()
         → AllInside m (noise_of set family key m (honest_coins family key.ek m))
         → SenderText (lattice_sealer set family kdf aead A.AeadImpl.seal_of key.ek info) messages m text → length text ≤ budget
         → OpensByKey set family kdf aead A.AeadImpl.open_of seed info (text ++ rest) budget (Ok messages) }
+{}
+
+/// Both sides of a setup over the lattice KEM have one context where all of the noise of the decryption is
+/// inside its intervals. To the key of a seed, by 32 bytes that are drawn: the recipient finds the secret
+/// that the sender encapsulated; and so, whatever the suite, the mode and the info, the context of the sender
+/// is the recipient's, with one key, one base nonce and one exporter secret (RFC 9180, section 5.1). Without a
+/// sender's identity there is a context; with one the lattice KEM encapsulates nothing.
+pub fn honest_sides_agree()
+    ensures secret { (set : Parameters) (family : Family) (seed m : List ℕ) (key : Key) → IsSet set → key_of set family seed ≡ Some key → AreBytes 32 m
+        → AllInside m (noise_of set family key m (honest_coins family key.ek m))
+        → (identity : Option (List ℕ × List ℕ)) (sender : Option (List ℕ)) → (identity ≡ None → sender ≡ None)
+        → (shared enc : List ℕ) → lattice_encap set family key.ek identity m ≡ Some (shared, enc)
+        → lattice_decap set family seed sender enc ≡ Some shared }
+    ensures context { (set : Parameters) (family : Family) (seed m : List ℕ) (key : Key) → IsSet set → key_of set family seed ≡ Some key → AreBytes 32 m
+        → AllInside m (noise_of set family key m (honest_coins family key.ek m))
+        → (identity : Option (List ℕ × List ℕ)) (sender : Option (List ℕ)) → (identity ≡ None → sender ≡ None)
+        → (suite : Suite) (mode : Mode) (info enc : List ℕ) (context : Context)
+        → sender_setup suite mode info (lattice_encap set family key.ek identity m) ≡ Some (enc, context)
+        → receiver_setup suite mode info (lattice_decap set family seed sender enc) ≡ Some context }
+    ensures there { (set : Parameters) (family : Family) (seed m : List ℕ) (key : Key) → key_of set family seed ≡ Some key
+        → (suite : Suite) (mode : Mode) (info : List ℕ) → sender_setup suite mode info (lattice_encap set family key.ek None m) ≢ None }
+    ensures with_identity { (set : Parameters) (family : Family) (pk m : List ℕ) (identity : List ℕ × List ℕ)
+        → (suite : Suite) (mode : Mode) (info : List ℕ) → sender_setup suite mode info (lattice_encap set family pk (Some identity) m) ≡ None }
 {}

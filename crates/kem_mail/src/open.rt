@@ -7,8 +7,8 @@ ghost use Rattle.age_format.specs.Stanza.{stanza_of};
 ghost use Rattle.hpke.specs.Schedule.{Context, suite_of};
 ghost use Rattle.kem_mail.specs.Mail.{Opener, Opens, IsVerdict, Verdict, bodies, judged_bodies, open_at, opened, opener_of};
 ghost use Rattle.kem_mail.specs.Taken.{Lost, IsTaken};
-ghost use Rattle.kem_mail.specs.Causes.{of_phase};
 ghost use Rattle.kem_mail.specs.private.Answers.{IsKeyOf, Judges};
+ghost use Rattle.kem_mail.specs.private.Causes.{ComesOf};
 ghost use Rattle.kem_mail.specs.private.Opening.{IsRead, ReadTaken};
 
 use crate::error::MailError;
@@ -28,6 +28,22 @@ pub(crate) const MESSAGE_TAG: &str = "msg";
 // The tag of the stanza that ends a mail.
 const DONE_TAG: &str = "done";
 
+// Why a mail isn't read, by the refusal of its reader, which writes nothing and gets no reply.
+fn refusal(phase: PhaseError) -> MailError
+    requires no_write_fault { phase ≢ PhaseError.WriteFault }
+    requires no_unexpected_reply { (tag : _) → phase ≢ PhaseError.UnexpectedReply tag }
+    ensures { ComesOf phase result }
+{
+    match phase {
+        PhaseError::NoMemory => MailError::NoMemory,
+        PhaseError::ReadFault => MailError::ReadFault,
+        PhaseError::InvalidData => MailError::InvalidData,
+        PhaseError::UnexpectedEof => MailError::UnexpectedEof,
+        PhaseError::TooMuch => MailError::TooMuch,
+        PhaseError::WriteFault | PhaseError::UnexpectedReply(_) => unreachable!(),
+    }
+}
+
 // The stanzas of a source before the first that ends a mail, among the first `budget` bytes.
 fn stanzas_before_done<S: Source>(
     alloc: Global,
@@ -35,7 +51,7 @@ fn stanzas_before_done<S: Source>(
     budget: u64,
 ) -> Result<Vec<Stanza>, MailError>
     ensures read { IfSome (S.left src.old) (λ text. IsRead (λ stanzas. map stanza_of stanzas.items) text budget result) }
-    ensures refused { IfErr result (λ e. (phase : PhaseError) × (e ≡ of_phase phase)) }
+    ensures refused { IfErr result (λ e. (phase : PhaseError) × ComesOf phase e) }
     ensures read_fault { IsErrOf result MailError.ReadFault → Rose (S.faults src.old) (S.faults src.new) }
     ensures taken { Lost (S.left src.old) (S.left src.new) (ReadTaken budget result) }
     ensures ended { IsErrOf result MailError.UnexpectedEof → IfSome (S.left src.old) (λ text. S.left src.new ≡ Some []) }
@@ -45,7 +61,10 @@ fn stanzas_before_done<S: Source>(
     let mut reader = StanzaReader::new(alloc, budget);
     let mut stanzas = Vec::new(alloc);
     loop {
-        let stanza = reader.receive_from(src)?;
+        let stanza = match reader.receive_from(src) {
+            Ok(stanza) => stanza,
+            Err(phase) => return Err(refusal(phase)),
+        };
         if stanza.has_tag(DONE_TAG) {
             return Ok(stanzas);
         }

@@ -10,9 +10,9 @@ ghost use Rattle.ml_kem.specs.Keys.{rho_part};
 ghost use Rattle.ml_kem.specs.Matrix.{matrix};
 ghost use Rattle.age_send.specs.Sending.{done};
 ghost use Rattle.kem_mail.specs.Sealing.{Sealer, key_stanza, lattice_sealer, message_stanza, seal_at, sealed, sealed_stanzas, sealer_of, unsealed};
-ghost use Rattle.kem_mail.specs.Causes.{of_send};
 ghost use Rattle.kem_mail.specs.SenderText.{IsSenderText};
 ghost use Rattle.kem_mail.specs.Sent.{SealsMail, Untouched, mail_text};
+ghost use Rattle.kem_mail.specs.private.Causes.{of_send};
 ghost use Rattle.kem_mail.specs.private.Sends.{Sends};
 
 use crate::error::SealMailError;
