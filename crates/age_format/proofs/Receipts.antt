@@ -69,6 +69,20 @@ malformed_longer text more bad = record {
       ];
 }
 
+-- malformed bytes give no stanza, whatever follows them
+pub malformed_gives_none : (before now : Held) (l m : Option (List ℕ)) (stanzas : List Stanza) → IsMalformed before.bytes → Receives before now l m stanzas → stanzas ≡ []
+malformed_gives_none before now l m [] bad r = refl
+malformed_gives_none before now l m (s ∷ ss) bad r =
+    let longer = malformed_longer before.bytes r.taken bad in
+    absurd (longer.begins_none s (flat_map spelling ss ++ now.bytes) r.each.0 (r.whole ∙ append_assoc (spelling s) (flat_map spelling ss) now.bytes))
+
+-- where nothing was paid, they stay as they are
+pub malformed_stays : (before now : Held) (l m : Option (List ℕ)) (stanzas : List Stanza) → IsMalformed before.bytes → Receives before now l m stanzas → now.budget ≡ before.budget → now.bytes ≡ before.bytes
+malformed_stays before now l m stanzas bad r same =
+    let none : r.taken ≡ [] = nil_from_length r.taken (let p = r.paid in omega (arith, p, same)) in
+    let empty : flat_map spelling stanzas ≡ [] = ap (flat_map spelling) (malformed_gives_none before now l m stanzas bad r) in
+    sym (rw (none, empty, append-nil before.bytes) at r.whole)
+
 -- what is held is a front and a piece of at most 4096 bytes
 abbrev pub EndsInPiece : List ℕ → Type 0
 EndsInPiece now = (front : List ℕ) × (piece : List ℕ) × (now ≡ front ++ piece) × IsFront front × (length piece ≤ 4096)

@@ -72,6 +72,17 @@ pub fn fronts()
     ensures { (text : List ℕ) → IsFront text ↔ IsFrontByCases text }
 {}
 
+/// Malformed bytes that are held give no stanza, whatever is read behind them; and where nothing is paid,
+/// which is so there (`unpaid` of `receive_from`), they stay held as they are. So behind an `InvalidData` each
+/// call answers `InvalidData`, or want of memory: what every other answer says of the bytes isn't so.
+pub fn malformed_bytes_stay()
+    ensures none_given { (before now : Held) (left_before left_now : Option (List ℕ)) (stanzas : List Stanza)
+        → IsMalformed before.bytes → Receives before now left_before left_now stanzas → stanzas ≡ [] }
+    ensures same { (before now : Held) (left_before left_now : Option (List ℕ)) (stanzas : List Stanza)
+        → IsMalformed before.bytes → Receives before now left_before left_now stanzas
+        → now.budget ≡ before.budget → now.bytes ≡ before.bytes }
+{}
+
 /// No text has two readings.
 pub fn one_reading()
     ensures { (text : List ℕ) (budget : ℕ) (one other : Reading)
