@@ -5,7 +5,7 @@ use Rattle.std.specs.Int.{div_ceil, to_be_bytes, w64}
 use Rattle.std.proofs.lemmas.Bool.{cases_lt, false≢true}
 use Rattle.std.proofs.lemmas.Nat.{pow-add, pow_pos, shr-shr}
 use Rattle.std.proofs.lemmas.List.{append_assoc, append-nil, drop-append-le, drop-drop, length-replicate, take-append-le, take_all, nil_from_length}
-use lib.Bits.{xor_assoc, xor_zero_r}
+use lib.Bits.{xor_assoc, xor_comm, xor_zero_r}
 use Rattle.gcm_core.proofs.Fields.{Reduces, picked, product_of-by_one, product_of-lt, product_of-of_xor, product_of-one, product_of_comm, product_of-more, product_of-next, product_of-xor, product_of-zero, product_of_assoc, times_x-high, times_x-low}
 use Rattle.gcm_core.specs.FieldMul.{product_of, times_x}
 use Rattle.gcm_core.specs.Gcm.{authenticated, padded}
@@ -50,6 +50,15 @@ block_product-by_one a h = product_of-by_one 128 reduction_block 128 a (omega ar
 pub block_product-zero : (b : ℕ) → block_product 0 b ≡ 0
 unfolding block_product
 block_product-zero b = product_of-zero 128 reduction_block 128 b
+
+-- a product beside that of 0
+pub zero-and : (g h b : ℕ) → bit_xor (block_product 0 g) (block_product b h) ≡ block_product b h
+zero-and g h b = ap (λ (z : ℕ). bit_xor z (block_product b h)) (block_product-zero g) ∙ xor_comm 0 (block_product b h) ∙ xor_zero_r (block_product b h)
+
+-- two steps of Horner's rule
+pub horner-two : (h a b : ℕ) → h < 2 ^ 128 → bit_xor (block_product a (block_product h h)) (block_product b h) ≡ block_product (bit_xor (block_product a h) b) h
+horner-two h a b l =
+    ap (λ (z : ℕ). bit_xor z (block_product b h)) (sym (block_product_assoc a h h l l)) ∙ sym (block_product-xor (block_product a h) b h l)
 
 block_power-lt : (h n : ℕ) → block_power h n < 2 ^ 128
 unfolding block_power
@@ -202,6 +211,17 @@ continued-step h y z i m p block l lt eb ez =
     ∙ ap (λ (q : List ℕ). polynomial_of block ∷ polynomials (m - (i + 1)) q) rest in
     sym (ap (continued h y) blocks ∙ continued-next h y (polynomial_of block) (polynomials (m - (i + 1)) (drop (16 * (i + 1)) p)) l
     ∙ ap (λ (k : ℕ). continued h k (polynomials (m - (i + 1)) (drop (16 * (i + 1)) p))) (sym ez))
+
+-- the sum two blocks on
+pub continued-two : (h y z i m : ℕ) (p first second : List ℕ) → h < 2 ^ 128 → 2 * i + 1 < m → first ≡ take 16 (drop (16 * (2 * i)) p) → second ≡ take 16 (drop (16 * (2 * i + 1)) p)
+    → z ≡ block_product (bit_xor (block_product (bit_xor y (polynomial_of first)) h) (polynomial_of second)) h
+    → continued h z (polynomials (m - 2 * (i + 1)) (drop (16 * (2 * (i + 1))) p)) ≡ continued h y (polynomials (m - 2 * i) (drop (16 * (2 * i)) p))
+continued-two h y z i m p first second l lt ef es ez =
+    let t : ℕ = block_product (bit_xor y (polynomial_of first)) h in
+    let count : 2 * (i + 1) ≡ 2 * i + 1 + 1 = omega arith in
+    ap (λ (k : ℕ). continued h z (polynomials (m - k) (drop (16 * k) p))) count
+    ∙ continued-step h t z (2 * i + 1) m p second l lt es ez
+    ∙ continued-step h y t (2 * i) m p first l (omega arith) ef refl
 
 -- the sum at the end of the blocks
 pub continued-done : (h y i m : ℕ) (p : List ℕ) → y < 2 ^ 128 → i ≡ m → continued h y (polynomials (m - i) (drop (16 * i) p)) ≡ y

@@ -8,6 +8,7 @@ pub mod Sealing
 pub mod SealingLaws
 pub mod Lanes
 pub mod HalfBytes
+pub mod Bases
 pub mod Rounds
 pub mod Shifts
 pub mod Sums

@@ -17,7 +17,7 @@ use Rattle.gcm_core.proofs.Lanes.{at_each_byte}
 use Rattle.gcm_core.proofs.Shifts.{folded, folded-step, product-raised, raised, raised-low, raised-lt, raised-xor, raised-zero}
 use Rattle.gcm_core.specs.Ghash.{block_product}
 use Rattle.gcm_core.specs.private.Nibbles.{entry_of}
-use Rattle.gcm_core.specs.private.Rows.{IsRows, byte_of, factor_of, row_at}
+use Rattle.gcm_core.specs.private.Rows.{IsRows, byte_of, factor_of, product_byte, row_at}
 
 abbrev pub AreBytes : List ℕ → Type 0
 AreBytes cs = Each1 (λ x. x < 256) cs
@@ -210,20 +210,31 @@ below j high lj lh =
     wide : (h p q : ℕ) → p * q ≡ 2 ^ 120 → h < p → 0 < q → h < 2 ^ 120
     wide h p q e l m = grind arith
 
--- a loop over the rows, from the last but one down
-pub rows-step : (row : ℕ → ℕ → ℕ) (j b low high n : ℕ) (cs : List ℕ) → j < 15 → b ≡ 14 - j → folded low high ≡ summed_rows row (j + 1) (15 - j) cs → low < 2 ^ 128 → high < 2 ^ (8 * j) → n < 2 ^ 128
-    → n ≡ number_l 256 (map (row b) cs) → folded (bit_xor (low * 256 % 2 ^ 128) n) (bit_xor (high * 256 % 2 ^ 128) (low / 2 ^ 120)) ≡ summed_rows row (j + 1 + 1) (15 - (j + 1)) cs
+-- one row more
+rows-more : (row : ℕ → ℕ → ℕ) (j b : ℕ) (l : List ℕ) → j < 15 → b ≡ 14 - j → bit_xor (number_l 256 (map (row b) l)) (raised 8 (summed_rows row (j + 1) (15 - j) l)) ≡ summed_rows row (j + 1 + 1) (15 - (j + 1)) l
 unfolding summed_rows
-rows-step row j b low high n cs lj eb held ll lh ln en =
-    let lt : high < 2 ^ 120 = below j high lj lh in
-    let fits : high * 256 % 2 ^ 128 ≡ high * 256 = omega arith in
+rows-more row j b l lj eb =
     let count : j + 1 + 1 ≡ suc (j + 1) = omega arith in
     let place : 15 - (j + 1) ≡ b = omega arith in
     let before : b + 1 ≡ 15 - j = omega arith in
+    ap (λ (z : ℕ). bit_xor (number_l 256 (map (row b) l)) (raised 8 (summed_rows row (j + 1) z l))) (sym before)
+    ∙ sym (ap (λ (z : ℕ). summed_rows row z (15 - (j + 1)) l) count ∙ ap (λ (z : ℕ). summed_rows row (suc (j + 1)) z l) place)
+
+-- a loop over the rows of two products, from the last but one down
+pub rows-step : (r s : ℕ → ℕ → ℕ) (j b low high n : ℕ) (cs ds : List ℕ) → j < 15 → b ≡ 14 - j
+    → folded low high ≡ bit_xor (summed_rows r (j + 1) (15 - j) cs) (summed_rows s (j + 1) (15 - j) ds) → low < 2 ^ 128 → high < 2 ^ (8 * j) → n < 2 ^ 128
+    → n ≡ bit_xor (number_l 256 (map (r b) cs)) (number_l 256 (map (s b) ds)) → summed_rows r (j + 1) (15 - j) cs < 2 ^ 128 → summed_rows s (j + 1) (15 - j) ds < 2 ^ 128
+    → folded (bit_xor (low * 256 % 2 ^ 128) n) (bit_xor (high * 256 % 2 ^ 128) (low / 2 ^ 120)) ≡ bit_xor (summed_rows r (j + 1 + 1) (15 - (j + 1)) cs) (summed_rows s (j + 1 + 1) (15 - (j + 1)) ds)
+rows-step r s j b low high n cs ds lj eb held ll lh ln en lr ls =
+    let lt : high < 2 ^ 120 = below j high lj lh in
+    let fits : high * 256 % 2 ^ 128 ≡ high * 256 = omega arith in
+    let p : ℕ = summed_rows r (j + 1) (15 - j) cs in
+    let q : ℕ = summed_rows s (j + 1) (15 - j) ds in
     ap (λ (z : ℕ). folded (bit_xor (low * 256 % 2 ^ 128) n) (bit_xor z (low / 2 ^ 120))) fits
     ∙ folded-step low high n ll lt ln ∙ ap (λ (z : ℕ). bit_xor z (raised 8 (folded low high))) en
-    ∙ ap (λ (z : ℕ). bit_xor (number_l 256 (map (row b) cs)) (raised 8 z)) (held ∙ ap (λ (z : ℕ). summed_rows row (j + 1) z cs) (sym before))
-    ∙ sym (ap (λ (z : ℕ). summed_rows row z (15 - (j + 1)) cs) count ∙ ap (λ (z : ℕ). summed_rows row (suc (j + 1)) z cs) place)
+    ∙ ap (λ (z : ℕ). bit_xor (bit_xor (number_l 256 (map (r b) cs)) (number_l 256 (map (s b) ds))) z) (ap (raised 8) held ∙ raised-xor 8 p q lr ls)
+    ∙ xor-swap (number_l 256 (map (r b) cs)) (number_l 256 (map (s b) ds)) (raised 8 p) (raised 8 q)
+    ∙ ap (λ (z : ℕ). bit_xor z (bit_xor (number_l 256 (map (s b) ds)) (raised 8 q))) (rows-more r j b cs lj eb) ∙ ap (bit_xor (summed_rows r (j + 1 + 1) (15 - (j + 1)) cs)) (rows-more s j b ds lj eb)
 
 pub rows-high : (j low high : ℕ) → j < 15 → low < 2 ^ 128 → high < 2 ^ (8 * j) → bit_xor (high * 256 % 2 ^ 128) (low / 2 ^ 120) < 2 ^ (8 * (j + 1))
 rows-high j low high lj ll lh =
@@ -233,10 +244,23 @@ rows-high j low high lj ll lh =
     xor_lt (8 * (j + 1)) (high * 256 % 2 ^ 128) (low / 2 ^ 120) (omega arith) (omega arith)
 
 -- the first row
-pub rows-first : (row : ℕ → ℕ → ℕ) (n : ℕ) (cs : List ℕ) → n ≡ number_l 256 (map (row 15) cs) → folded n 0 ≡ summed_rows row 1 15 cs
+rows-alone : (row : ℕ → ℕ → ℕ) (l : List ℕ) → number_l 256 (map (row 15) l) ≡ summed_rows row 1 15 l
 unfolding summed_rows
-rows-first row n cs e =
-    ap (bit_xor n) (raised-zero 128) ∙ ap (λ (z : ℕ). bit_xor z 0) e ∙ sym (ap (bit_xor (number_l 256 (map (row 15) cs))) (raised-zero 8))
+rows-alone row l = sym (ap (bit_xor (number_l 256 (map (row 15) l))) (raised-zero 8) ∙ xor_zero_r (number_l 256 (map (row 15) l)))
+
+pub rows-first : (r s : ℕ → ℕ → ℕ) (n : ℕ) (cs ds : List ℕ) → n ≡ bit_xor (number_l 256 (map (r 15) cs)) (number_l 256 (map (s 15) ds)) → folded n 0 ≡ bit_xor (summed_rows r 1 15 cs) (summed_rows s 1 15 ds)
+rows-first r s n cs ds e =
+    ap (bit_xor n) (raised-zero 128) ∙ xor_zero_r n ∙ e ∙ ap (λ (z : ℕ). bit_xor z (number_l 256 (map (s 15) ds))) (rows-alone r cs) ∙ ap (bit_xor (summed_rows r 1 15 cs)) (rows-alone s ds)
+
+-- the rows of a product
+product_byte-lt : (h b c : ℕ) → product_byte h b c < 256
+product_byte-lt h b c = omega arith
+
+pub product_rows-lt : (h k b : ℕ) (cs : List ℕ) → b + k ≤ 16 → AreBytes cs → length cs ≤ 16 → summed_rows (product_byte h) k b cs < 2 ^ 128
+product_rows-lt h k b cs l bytes few = summed_rows-lt (product_byte h) k b cs (λ i c hi hc. product_byte-lt h i c) l bytes few
+
+pub product_rows-is : (h : ℕ) (cs : List ℕ) → h < 2 ^ 128 → AreBytes cs → length cs ≤ 16 → summed_rows (product_byte h) 16 0 cs ≡ block_product (number_l 256 cs) h
+product_rows-is h cs lh bytes few = summed_rows-is (product_byte h) h cs (λ b c hb hc. refl) lh bytes few
 
 -- ---- rows that are written place by place
 

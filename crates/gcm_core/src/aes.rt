@@ -1,9 +1,10 @@
 //! The block cipher AES under a key of 16, 24 or 32 bytes (FIPS 197).
 
-ghost use Rattle.std.specs.Prelude.{◌≡◌, ◌+◌, ◌*◌, ◌%◌, ◌<◌, ◌≤◌, length, take};
+ghost use Rattle.std.specs.Prelude.{◌≡◌, ◌+◌, ◌*◌, ◌%◌, ◌<◌, ◌≤◌, ℕ, List, length, take};
 ghost use Rattle.gcm_core.specs.Aes.{add_round_key, cipher, key_expansion, mix_columns, schedule_term, shift_rows, sub_bytes, sub_word, word_at, xor_bytes};
+ghost use Rattle.gcm_core.specs.private.Nibbles.{IsChanged, IsKey};
 
-use crate::nibbles::substitutes;
+use crate::nibbles::{changed, substituted, substitutes, with_affine};
 use std::simd::prelude::*;
 
 pub(crate) const BLOCK_LEN: usize = 16;
@@ -49,25 +50,37 @@ const SHIFTED_2: [usize; BLOCK_LEN] = [10, 15, 0, 5, 14, 3, 4, 9, 2, 7, 8, 13, 6
 
 const SHIFTED_3: [usize; BLOCK_LEN] = [15, 0, 5, 10, 3, 4, 9, 14, 7, 8, 13, 2, 11, 12, 1, 6];
 
-// SubBytes, ShiftRows and MixColumns. Three times a byte is its double and itself.
+// A round on a state in the other basis: SubBytes, ShiftRows, MixColumns and AddRoundKey, with a key of
+// `changed_key`. Three times a byte is its double and itself.
 #[inline(always)]
-fn mixed(s: u8x16) -> u8x16
-    ensures { result ≡ mix_columns (shift_rows (sub_bytes s)) }
+fn next_state(t: u8x16, key: u8x16) -> u8x16
+    ensures { (w s : List ℕ) (n : ℕ) → IsChanged s t → IsKey w n key → 16 * (n + 1) ≤ length w
+        → IsChanged (add_round_key w n (mix_columns (shift_rows (sub_bytes s)))) result }
 {
-    let (once, twice) = substitutes(s);
+    let (once, twice) = substitutes(t);
     twice.swizzle(SHIFTED)
         ^ (twice ^ once).swizzle(SHIFTED_1)
         ^ once.swizzle(SHIFTED_2)
         ^ once.swizzle(SHIFTED_3)
+        ^ key
 }
 
-// SubBytes and ShiftRows.
+// SubBytes and ShiftRows of a state in the other basis, which leave it.
 #[inline(always)]
-fn shifted(s: u8x16) -> u8x16
-    ensures { result ≡ shift_rows (sub_bytes s) }
+fn shifted(t: u8x16) -> u8x16
+    ensures { (s : List ℕ) → IsChanged s t → result ≡ shift_rows (sub_bytes s) }
 {
-    let (once, _twice) = substitutes(s);
-    once.swizzle(SHIFTED)
+    substituted(t).swizzle(SHIFTED)
+}
+
+// A round key in the other basis, with what the affine map adds to each byte: MixColumns leaves a column
+// of four equal bytes as it is.
+#[inline(always)]
+fn changed_key(round_keys: &[u8], round: usize) -> u8x16
+    requires { 16 * (round + 1) ≤ length round_keys.now }
+    ensures { IsKey round_keys.now round result }
+{
+    with_affine(u8x16::from_slice(&round_keys[BLOCK_LEN * round..]))
 }
 
 #[inline(always)]
@@ -78,15 +91,24 @@ fn add_round_key(state: u8x16, round_keys: &[u8], round: usize) -> u8x16
     state ^ u8x16::from_slice(&round_keys[BLOCK_LEN * round..])
 }
 
+// A block after the first AddRoundKey, in the other basis.
+#[inline(always)]
+fn first_state(round_keys: &[u8], block: Block) -> u8x16
+    requires { 32 ≤ length round_keys.now }
+    ensures { IsChanged (add_round_key round_keys.now 0 block) result }
+{
+    changed(add_round_key(u8x16::from_array(block), round_keys, 0))
+}
+
 // The cipher over one block. The number of rounds is one less than the number of round keys.
 pub(crate) fn cipher(round_keys: &[u8], block: Block) -> Block
     requires { 32 ≤ length round_keys.now }
     ensures { result ≡ cipher round_keys.now block }
 {
     let rounds = round_keys.len() / BLOCK_LEN - 1;
-    let mut state = add_round_key(u8x16::from_array(block), round_keys, 0);
+    let mut state = first_state(round_keys, block);
     for round in 1..rounds {
-        state = add_round_key(mixed(state), round_keys, round);
+        state = next_state(state, changed_key(round_keys, round));
     }
     add_round_key(shifted(state), round_keys, rounds).to_array()
 }
@@ -103,15 +125,16 @@ pub(crate) fn cipher_four(
     ensures { result ≡ (cipher round_keys.now a, cipher round_keys.now b, cipher round_keys.now c, cipher round_keys.now d) }
 {
     let rounds = round_keys.len() / BLOCK_LEN - 1;
-    let mut a = add_round_key(u8x16::from_array(a), round_keys, 0);
-    let mut b = add_round_key(u8x16::from_array(b), round_keys, 0);
-    let mut c = add_round_key(u8x16::from_array(c), round_keys, 0);
-    let mut d = add_round_key(u8x16::from_array(d), round_keys, 0);
+    let mut a = first_state(round_keys, a);
+    let mut b = first_state(round_keys, b);
+    let mut c = first_state(round_keys, c);
+    let mut d = first_state(round_keys, d);
     for round in 1..rounds {
-        a = add_round_key(mixed(a), round_keys, round);
-        b = add_round_key(mixed(b), round_keys, round);
-        c = add_round_key(mixed(c), round_keys, round);
-        d = add_round_key(mixed(d), round_keys, round);
+        let key = changed_key(round_keys, round);
+        a = next_state(a, key);
+        b = next_state(b, key);
+        c = next_state(c, key);
+        d = next_state(d, key);
     }
     (
         add_round_key(shifted(a), round_keys, rounds),
@@ -140,8 +163,7 @@ fn word_at(round_keys: &[u8], i: usize) -> Word
 fn sub_first_word(lanes: u8x16) -> Word
     ensures { result ≡ sub_word (take 4 lanes) }
 {
-    let (once, _twice) = substitutes(lanes);
-    let bytes = once.to_array();
+    let bytes = substituted(changed(lanes)).to_array();
     [bytes[0], bytes[1], bytes[2], bytes[3]]
 }
 

@@ -93,6 +93,14 @@ fn absorb_block(key: &HashKey, sum: u128, block: Block) -> u128
     key.times(sum ^ polynomial_of(block))
 }
 
+// Two blocks more.
+fn absorb_two(key: &HashKey, sum: u128, first: Block, second: Block) -> u128
+    ensures sum { result ≡ block_product (bit_xor (block_product (bit_xor sum (polynomial_of first)) key.now) (polynomial_of second)) key.now }
+    ensures within { key.now < 2 ^ 128 }
+{
+    key.times_twice(sum ^ polynomial_of(first), polynomial_of(second))
+}
+
 // The block of the bytes from `start` on, with zeros behind a short one. A whole block is read at once.
 #[inline(always)]
 fn padded_block(bytes: &[u8], start: usize) -> Block
@@ -114,11 +122,18 @@ pub(crate) fn absorb(key: &HashKey, earlier: u128, bytes: &[u8]) -> u128
     ensures { result ≡ continued key.now earlier
         (polynomials (div_ceil (length bytes.now) 16) (padded bytes.now)) }
 {
+    let count = bytes.len().div_ceil(BLOCK_LEN);
     let mut sum = earlier;
-    for i in 0..bytes.len().div_ceil(BLOCK_LEN) {
-        sum = absorb_block(key, sum, padded_block(bytes, BLOCK_LEN * i));
+    for i in 0..count / 2 {
+        let first = padded_block(bytes, BLOCK_LEN * (2 * i));
+        let second = padded_block(bytes, BLOCK_LEN * (2 * i + 1));
+        sum = absorb_two(key, sum, first, second);
     }
-    sum
+    if count % 2 == 1 {
+        absorb_block(key, sum, padded_block(bytes, BLOCK_LEN * (2 * (count / 2))))
+    } else {
+        sum
+    }
 }
 
 // The last block: both lengths in bits.

@@ -1,14 +1,14 @@
-//! The hash subkey of GHASH with rows of its products, which are looked up in registers, so that no
-//! address depends on a text.
+//! The hash subkey of GHASH and its square, with rows of their products, which are looked up in
+//! registers, so that no address depends on a text.
 //!
-//! A product is the sum, over the bytes of one factor, of each byte's product with the subkey, moved up
+//! A product is the sum, over the bytes of one factor, of each byte's product with the other, moved up
 //! by the byte's place. Row b holds byte b of the products of the 16 low half bytes, and then of the 16
 //! high ones; looked up at all bytes of the factor together it gives byte b of each byte's product.
 
 ghost use Rattle.std.specs.Prelude.{◌≡◌, ◌+◌, ◌*◌, ◌/◌, ◌%◌, ◌^◌, ◌<◌, ℕ, bit_xor, length, map, slice_index};
 ghost use Rattle.std.specs.Simd.Lanes.{Each1, number_l};
 ghost use Rattle.gcm_core.specs.Ghash.{block_product};
-ghost use Rattle.gcm_core.specs.private.Rows.{IsRows, byte_of, factor_of, row_at};
+ghost use Rattle.gcm_core.specs.private.Rows.{IsRows, byte_of, factor_of, product_byte, row_at};
 
 use crate::aes::BLOCK_LEN;
 use crate::ghash::byte_times;
@@ -32,22 +32,40 @@ const FROM_LAST: [usize; BLOCK_LEN] = [
 // What the upper half of a product is worth.
 const WORD: u128 = 1 << 64;
 
-// The hash subkey. Contracts see it as its polynomial.
+// One factor of products, with its rows. Contracts see it as its polynomial.
 #[derive(Drop)]
-pub(crate) struct HashKey {
-    subkey: u128,
+struct Multiplier {
+    by: u128,
     rows: [u8; ROWS_LEN],
 }
 
-impl Model for HashKey {
+impl Model for Multiplier {
     ghost use Rattle.std.specs.Prelude.{◌<◌, ◌^◌, ℕ};
     ghost use Rattle.gcm_core.specs.private.Rows.{IsRows};
 
     ghost Value = { ℕ };
 
+    ghost view = { λ s. s.by };
+
+    ghost invariant = { λ s. IsRows s.by s.rows × (s.by < 2 ^ 128) };
+}
+
+// The hash subkey and its square. Contracts see them as the subkey's polynomial.
+#[derive(Drop)]
+pub(crate) struct HashKey {
+    subkey: Multiplier,
+    square: Multiplier,
+}
+
+impl Model for HashKey {
+    ghost use Rattle.std.specs.Prelude.{◌≡◌, ◌<◌, ◌^◌, ℕ};
+    ghost use Rattle.gcm_core.specs.Ghash.{block_product};
+
+    ghost Value = { ℕ };
+
     ghost view = { λ s. s.subkey };
 
-    ghost invariant = { λ s. IsRows s.subkey s.rows × (s.subkey < 2 ^ 128) };
+    ghost invariant = { λ s. (s.square ≡ block_product s.subkey s.subkey) × (s.subkey < 2 ^ 128) };
 }
 
 // The factor of a place in a row.
@@ -129,35 +147,90 @@ fn row_sum(rows: &[u8; ROWS_LEN], b: usize, lanes: u8x16) -> u8x16
     low ^ high
 }
 
-impl HashKey {
-    // The rows of a subkey.
-    pub fn new(subkey: u128) -> HashKey
-        ensures { result ≡ subkey }
+impl Multiplier {
+    // The rows of a factor.
+    fn new(by: u128) -> Multiplier
+        ensures value { result ≡ by }
+        ensures within { by < 2 ^ 128 }
     {
         let mut rows = [0; ROWS_LEN];
         for place in 0..ROW_LEN {
-            write_column(&mut rows, place, byte_times(factor(place), subkey));
+            write_column(&mut rows, place, byte_times(factor(place), by));
         }
-        HashKey { subkey, rows }
+        Multiplier { by, rows }
     }
 
-    // The product of an element and the subkey. The rows are added by Horner's rule into a number of
-    // two parts; x^128 is x^7 + x^2 + x + 1.
+    // Byte b of the product of each byte in lanes.
+    #[inline(always)]
+    fn row(&self, b: usize, lanes: u8x16) -> u8x16
+        requires { b < 16 }
+        ensures sum { number_l 256 result ≡ number_l 256 (map (product_byte self.now b) lanes) }
+        ensures small { number_l 256 result < 2 ^ 128 }
+        ensures within { self.now < 2 ^ 128 }
+    {
+        row_sum(&self.rows, b, lanes)
+    }
+}
+
+// What two rows give together.
+#[inline(always)]
+fn rows_sum(x: &Multiplier, y: &Multiplier, b: usize, first: u8x16, second: u8x16) -> u8x16
+    requires { b < 16 }
+    ensures sum { number_l 256 result ≡ bit_xor (number_l 256 (map (product_byte x.now b) first)) (number_l 256 (map (product_byte y.now b) second)) }
+    ensures small { number_l 256 result < 2 ^ 128 }
+    ensures within { (x.now < 2 ^ 128) × (y.now < 2 ^ 128) }
+{
+    sum_of(x.row(b, first), y.row(b, second))
+}
+
+// The sum of two products. Their rows are added by Horner's rule into one number of two parts, which is
+// reduced once; x^128 is x^7 + x^2 + x + 1.
+#[inline(always)]
+fn products_sum(x: &Multiplier, y: &Multiplier, a: u128, b: u128) -> u128
+    ensures { result ≡ bit_xor (block_product a x.now) (block_product b y.now) }
+{
+    let first = lanes_of(a);
+    let second = lanes_of(b);
+    let zero = u8x16::splat(0);
+    let mut lower = rows_sum(x, y, BLOCK_LEN - 1, first, second);
+    let mut upper = zero;
+    for j in 0..BLOCK_LEN - 1 {
+        let row = rows_sum(x, y, BLOCK_LEN - 2 - j, first, second);
+        upper = moved_up(lower, upper);
+        lower = sum_of(moved_up(zero, lower), row);
+    }
+    let low = number_of(lower);
+    let high = number_of(upper);
+    low ^ (high ^ ((high << 1) ^ ((high << 2) ^ (high << 7))))
+}
+
+impl HashKey {
+    // The subkey and its square.
+    pub fn new(subkey: u128) -> HashKey
+        ensures { result ≡ subkey }
+    {
+        let first = Multiplier::new(subkey);
+        let square = Multiplier::new(products_sum(&first, &first, 0, subkey));
+        HashKey {
+            subkey: first,
+            square,
+        }
+    }
+
+    // The product of an element and the subkey.
     pub fn times(&self, element: u128) -> u128
         ensures product { result ≡ block_product element self.now }
         ensures within { self.now < 2 ^ 128 }
     {
-        let lanes = lanes_of(element);
-        let zero = u8x16::splat(0);
-        let mut lower = row_sum(&self.rows, BLOCK_LEN - 1, lanes);
-        let mut upper = zero;
-        for j in 0..BLOCK_LEN - 1 {
-            let row = row_sum(&self.rows, BLOCK_LEN - 2 - j, lanes);
-            upper = moved_up(lower, upper);
-            lower = sum_of(moved_up(zero, lower), row);
-        }
-        let low = number_of(lower);
-        let high = number_of(upper);
-        low ^ (high ^ ((high << 1) ^ ((high << 2) ^ (high << 7))))
+        products_sum(&self.subkey, &self.subkey, 0, element)
+    }
+
+    // Two steps of Horner's rule: the first element times the subkey, the second one added, times the
+    // subkey again.
+    pub fn times_twice(&self, first: u128, second: u128) -> u128
+        ensures product { result ≡ block_product (bit_xor (block_product first self.now) second) self.now }
+        ensures within { self.now < 2 ^ 128 }
+    {
+        products_sum(&self.square, &self.subkey, first, second)
     }
 }

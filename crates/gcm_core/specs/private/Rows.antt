@@ -19,3 +19,7 @@ IsRows h rows = (b place : ℕ) → b < 16 → place < 32 → slice_index rows (
 -- what row b gives of a byte
 abbrev pub row_at : List ℕ → ℕ → ℕ → ℕ
 row_at rows b c = bit_xor (entry_of (take 16 (drop (32 * b) rows)) (bit_and c 15)) (entry_of (take 16 (drop (32 * b + 16) rows)) (c / 2 ^ 4))
+
+-- byte b of the product of a byte
+abbrev pub product_byte : ℕ → ℕ → ℕ → ℕ
+product_byte h b c = byte_of b (block_product c h)

@@ -7,5 +7,5 @@ use Rattle.gcm_core.proofs.ghash.absorb.Given as goal
 
 abbrev pub invariant-loop-i : goal.invariant-loop-i
 invariant-loop-i l =
-    (l.sum < 2 ^ 128) × (continued l.key l.sum (polynomials (div_ceil (length l.bytes) 16 - l.i) (drop (16 * l.i) (padded l.bytes)))
+    (l.sum < 2 ^ 128) × (continued l.key l.sum (polynomials (div_ceil (length l.bytes) 16 - 2 * l.i) (drop (16 * (2 * l.i)) (padded l.bytes)))
     ≡ continued l.key l.earlier (polynomials (div_ceil (length l.bytes) 16) (padded l.bytes)))
