@@ -147,3 +147,22 @@ pub fn age_stanza<W: Sink>(
 {
     Ok(write_parts(sink, tag, args, body)?)
 }
+
+/// Writes a stanza under a command, as [`age_stanza`] writes one: its tag is the command, and its arguments
+/// are the metadata, the stanza's tag and the stanza's arguments.
+///
+/// It takes no memory. At `WriteFault` a part of it, from its front, was written.
+pub fn age_stanza_under<W: Sink>(
+    sink: &mut W,
+    command: &str,
+    metadata: &[String],
+    stanza: &Stanza,
+) -> Result<(), WriteFault>
+    requires command { IsArbitraryString command.now }
+    requires metadata { AllByRecursion IsArbitraryString (map string_bytes metadata.now) }
+    requires tag { IsArbitraryString (string_bytes stanza.now.tag) }
+    requires args { AllByRecursion IsArbitraryString (map string_bytes stanza.now.args.items) }
+    ensures { Writes W.got W.faults W.plan sink.old sink.new result (spelling (under_command command.now (map string_bytes metadata.now) (stanza_of stanza.now))) }
+{
+    Ok(write_under_command(sink, command, metadata, stanza)?)
+}
