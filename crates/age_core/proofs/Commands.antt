@@ -5,7 +5,7 @@ use Rattle.std.specs.List.{AllByRecursion}
 use Rattle.std.proofs.lemmas.List.Elements.{filter-append}
 use Rattle.std.proofs.lemmas.List.{append-nil}
 use Rattle.age_format.specs.declared.format.Stanza.{Stanza}
-use Rattle.age_core.specs.Phases.{Commands, is_command, for_a, for_b, for_c, for_d, Calls, values, errors, ComesTo, Ran, MayTake, AnswersIfAsked, without_command}
+use Rattle.age_core.specs.Phases.{Commands, is_command, for_a, for_b, for_c, for_d, Calls, values, errors, ComesTo, Ran, MayTake, AnswersIfAsked}
 
 -- ---- answers
 

@@ -1,20 +1,19 @@
 -- Runs of receiving and answering, joined one stanza after another.
-use Rattle.std.proofs.Common.{◌≡◌, ◌≢◌, ℕ, ◌<◌, ◌≤◌, List, [], ◌∷◌, ◌++◌, length, map, Option, Some, None, refl, sym, ap, subst, ◌∙◌, append_assoc, ◌⊎◌, inl, inr}
-use Rattle.std.specs.Prelude.{IfSome, Result, Ok, Err, IsErrOf}
-use Rattle.std.specs.List.{flat_map, AllByRecursion}
+use Rattle.std.proofs.Common.{◌≡◌, ℕ, ◌<◌, ◌≤◌, List, [], ◌∷◌, ◌++◌, Option, Some, None, refl, sym, ap, subst, ◌∙◌, append_assoc, inl}
+use Rattle.std.specs.Prelude.{IfSome, Err, IsErrOf}
+use Rattle.std.specs.List.{flat_map}
 use Rattle.std.proofs.lemmas.List.{append-nil}
 use Rattle.std.proofs.lemmas.List.Concat.{flat_map-append}
 use Rattle.age_format.specs.declared.error.PhaseError.{PhaseError}
-use Rattle.age_format.specs.declared.error.PhaseError.TheVariants.{NoMemory, WriteFault, ReadFault, InvalidData, UnexpectedEof, TooMuch}
+use Rattle.age_format.specs.declared.error.PhaseError.TheVariants.{NoMemory, WriteFault, ReadFault, InvalidData, UnexpectedEof, TooMuch, UnexpectedReply}
 use Rattle.age_format.specs.Outside.{Rose, Gains, Wrote, WrotePart}
-use Rattle.age_format.specs.Stanza.{Stanza, IsFront, spelling}
+use Rattle.age_format.specs.Stanza.{Stanza, IsFront}
 use Rattle.age_format.specs.Front.{IsMalformed}
 use Rattle.age_format.specs.Receiving.{Took, Receives}
 use Rattle.age_format.proofs.Receipts.{Little, receives_none, receives_both, little_more}
 use Rattle.age_core.specs.declared.plugin.connection.Connection.{Connection}
 use Rattle.age_core.specs.Connecting.{source_of, sink_of, held_by}
-use Rattle.age_core.specs.Replies.{ArePassedOver, unsupported_reply, unsupported_text}
-use Rattle.age_core.specs.Exchanges.{Exchanged, Interrupted, ReadLittle, ReceiveRefused, RefusedPassing, PassingRefused}
+use Rattle.age_core.specs.Exchanges.{Exchanged, Interrupted, ReadLittle, ReceiveRefused}
 
 -- ---- what was written
 
@@ -32,7 +31,7 @@ pub last_text : (f : Stanza → List ℕ) (ss : List Stanza) (s : Stanza) → fl
 last_text f ss s = flat_map-append f ss (s ∷ []) ∙ ap (λ (t : List ℕ). flat_map f ss ++ t) (append-nil (f s))
 
 -- where a source's end was seen later, it ended
-ended_first : (l m n : Option (List ℕ)) (taken : List ℕ) → Took l m taken → IfSome m (λ _. n ≡ Some []) → IfSome l (λ _. n ≡ Some [])
+pub ended_first : (l m n : Option (List ℕ)) (taken : List ℕ) → Took l m taken → IfSome m (λ _. n ≡ Some []) → IfSome l (λ _. n ≡ Some [])
 ended_first None m n taken h k = tt
 ended_first (Some text) m n taken h k = subst (λ (o : Option (List ℕ)). IfSome o (λ _. n ≡ Some [])) h.2 k
 
@@ -92,12 +91,14 @@ module _ {R W : Type 0} (left : R → Option (List ℕ)) (reads : R → ℕ) (go
           → (IsErrOf {T = A} (Err e) InvalidData → IsMalformed (held_by b).bytes)
           → (IsErrOf {T = A} (Err e) UnexpectedEof → IsFront (held_by b).bytes × (0 < (held_by b).budget) × IfSome (left (source_of a)) (λ _. left (source_of b) ≡ Some []))
           → (IsErrOf {T = A} (Err e) TooMuch → IsFront (held_by b).bytes × ((held_by b).budget ≡ 0))
+          → ((tag : _) → IsErrOf {T = A} (Err e) (UnexpectedReply tag) → ⊥)
           → reads (source_of a) ≤ reads (source_of b)
           → ReceiveRefused left reads got faults plan first b e
-      refused_first NoMemory fault no_fault write bad end much rises = no_fault (λ e. cc) ∙ none
-      refused_first WriteFault fault no_fault write bad end much rises = write refl
-      refused_first ReadFault fault no_fault write bad end much rises = let f = fault refl in rw (sym none) (f.0, rises, f.1, f.2)
-      refused_first InvalidData fault no_fault write bad end much rises = (no_fault (λ e. cc) ∙ none, bad refl)
-      refused_first UnexpectedEof fault no_fault write bad end much rises =
+      refused_first NoMemory fault no_fault write bad end much unexpected rises = no_fault (λ e. cc) ∙ none
+      refused_first WriteFault fault no_fault write bad end much unexpected rises = write refl
+      refused_first ReadFault fault no_fault write bad end much unexpected rises = let f = fault refl in rw (sym none) (f.0, rises, f.1, f.2)
+      refused_first InvalidData fault no_fault write bad end much unexpected rises = (no_fault (λ e. cc) ∙ none, bad refl)
+      refused_first UnexpectedEof fault no_fault write bad end much unexpected rises =
           let f = end refl in (no_fault (λ e. cc) ∙ none, f.0, f.1, ended_first (left (source_of first)) (left (source_of a)) (left (source_of b)) taken took f.2)
-      refused_first TooMuch fault no_fault write bad end much rises = let f = much refl in (no_fault (λ e. cc) ∙ none, f.0, f.1)
+      refused_first TooMuch fault no_fault write bad end much unexpected rises = let f = much refl in (no_fault (λ e. cc) ∙ none, f.0, f.1)
+      refused_first (UnexpectedReply tag) fault no_fault write bad end much unexpected rises = unexpected tag refl

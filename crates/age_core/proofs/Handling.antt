@@ -1,10 +1,10 @@
 -- A handler's replies, and what a phase of them comes to.
-use Rattle.std.proofs.Common.{◌≡◌, ◌≢◌, ℕ, Bool, true, false, List, [], ◌∷◌, ◌++◌, map, Option, refl, sym, ap, subst, ◌∙◌}
+use Rattle.std.proofs.Common.{◌≡◌, ◌≢◌, ℕ, Bool, true, false, List, [], ◌∷◌, ◌++◌, map, Option, refl, sym, subst, ◌∙◌}
 use Rattle.std.specs.Prelude.{codes, MatchBool, Result, Ok, Err, IfErr, IsErrAnd}
 use Rattle.std.specs.List.{flat_map, AllByRecursion}
 use Rattle.age_format.specs.declared.format.Stanza.{Stanza as Held-Stanza}
 use Rattle.age_format.specs.declared.error.PhaseError.{PhaseError}
-use Rattle.age_format.specs.declared.error.PhaseError.TheVariants.{NoMemory, WriteFault, ReadFault, InvalidData, UnexpectedEof, TooMuch}
+use Rattle.age_format.specs.declared.error.PhaseError.TheVariants.{NoMemory, WriteFault, ReadFault, InvalidData, UnexpectedEof, TooMuch, UnexpectedReply}
 use Rattle.age_format.specs.Stanza.{Stanza, stanza_of, spelling}
 use Rattle.age_format.specs.Reading.{NoneDone, StandsBeforeDone}
 use Rattle.age_format.specs.Receiving.{Held}
@@ -81,6 +81,7 @@ module _ {R W : Type 0} (left : R → Option (List ℕ)) (reads : R → ℕ) (go
       → (e : PhaseError) → ReceiveRefused left reads got faults plan first b e → PhaseRefused left reads got faults plan first b step commands handler e
   phase_refused ss rs last none replied h NoMemory refused = record { stanzas = ss; replies = rs; after = last; none_done = none; replied = replied; exchanged = h; refused = refused }
   phase_refused ss rs last none replied h WriteFault refused = absurd refused
+  phase_refused ss rs last none replied h (UnexpectedReply tag) refused = absurd refused
   phase_refused ss rs last none replied h ReadFault refused = record { stanzas = ss; replies = rs; after = last; none_done = none; replied = replied; exchanged = h; refused = refused }
   phase_refused ss rs last none replied h InvalidData refused = record { stanzas = ss; replies = rs; after = last; none_done = none; replied = replied; exchanged = h; refused = refused }
   phase_refused ss rs last none replied h UnexpectedEof refused = record { stanzas = ss; replies = rs; after = last; none_done = none; replied = replied; exchanged = h; refused = refused }

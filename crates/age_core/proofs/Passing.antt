@@ -1,9 +1,9 @@
 -- Stanzas that are passed over, and what a call that passes over them comes to.
-use Rattle.std.proofs.Common.{◌≡◌, ◌≢◌, ℕ, suc, ◌+◌, ◌<◌, add-one, Bool, true, false, List, [], ◌∷◌, ◌++◌, length, drop, drop-cons, map, Option, refl, sym, ap, subst, ◌∙◌, append_assoc, ◌⊎◌, inl, inr}
+use Rattle.std.proofs.Common.{◌≡◌, ℕ, suc, ◌+◌, ◌<◌, add-one, Bool, true, false, List, [], ◌∷◌, ◌++◌, length, drop, drop-cons, map, Option, sym, ap, subst, ◌∙◌, append_assoc, ◌⊎◌, inl, inr}
 use Rattle.std.specs.Prelude.{◌||◌, slice_index_or, Result, Ok, Err, IsErrAnd}
 use Rattle.std.specs.List.{flat_map, list_any, AllByRecursion}
 use Rattle.age_format.specs.declared.error.PhaseError.{PhaseError}
-use Rattle.age_format.specs.declared.error.PhaseError.TheVariants.{NoMemory, WriteFault, ReadFault, InvalidData, UnexpectedEof, TooMuch}
+use Rattle.age_format.specs.declared.error.PhaseError.TheVariants.{NoMemory, WriteFault, ReadFault, InvalidData, UnexpectedEof, TooMuch, UnexpectedReply}
 use Rattle.age_format.specs.Stanza.{Stanza, IsStanza, IsFront, spelling}
 use Rattle.age_format.specs.Reading.{IsDone}
 use Rattle.age_format.specs.Receiving.{Held, Receives}
@@ -11,7 +11,7 @@ use Rattle.age_format.proofs.Stanzas.{the_same_stanza as same_stanza}
 use Rattle.age_format.proofs.Receipts.{front_begins_none, receives_unpaid}
 use Rattle.age_core.specs.declared.plugin.connection.Connection.{Connection}
 use Rattle.age_core.specs.declared.plugin.reply.NoCommand.{NoCommand}
-use Rattle.age_core.specs.declared.plugin.reply.NoCommand.TheVariants.{Done, Refused}
+use Rattle.age_core.specs.declared.plugin.reply.NoCommand.TheVariants.{Refused}
 use Rattle.age_core.specs.Replies.{is_among, IsCommand, IsPassedOver, ArePassedOver, unsupported_text, StandsNext}
 use Rattle.age_core.specs.Exchanges.{Exchanged, ReceiveRefused, PassingRefused, GivesNone}
 
@@ -42,7 +42,8 @@ module _ (commands : List (List ℕ)) where
   pub next_no_front : (text : List ℕ) → StandsNext commands text → IsFront text → ⊥
   next_no_front text stands front = front_by text stands.passed stands.last stands.rest stands.whole stands.each stands.last_is_stanza front
 
-  ends_not : (s last : Stanza) → s ≡ last → IsPassedOver commands s → IsDone last ⊎ IsCommand commands last → ⊥
+  -- what is passed over ends no call
+  pub ends_not : (s last : Stanza) → s ≡ last → IsPassedOver commands s → IsDone last ⊎ IsCommand commands last → ⊥
   ends_not s last e over (inl done) = over.0 (ap (λ (x : Stanza). x.tag) e ∙ done)
   ends_not s last e over (inr command) =
       let f : is_among commands last ≡ false = subst (λ (x : Stanza). is_among commands x ≡ false) e over.1 in
@@ -89,6 +90,7 @@ module _ {R W : Type 0} (left : R → Option (List ℕ)) (reads : R → ℕ) (go
       → (e : PhaseError) → ReceiveRefused left reads got faults plan first b e → PassingRefused left reads got faults plan first b commands e
   passing_refused ss over h NoMemory refused = record { passed = ss; exchanged = h; passed_over = over; refused = refused }
   passing_refused ss over h WriteFault refused = absurd refused
+  passing_refused ss over h (UnexpectedReply tag) refused = absurd refused
   passing_refused ss over h ReadFault refused = record { passed = ss; exchanged = h; passed_over = over; refused = refused }
   passing_refused ss over h InvalidData refused = record { passed = ss; exchanged = h; passed_over = over; refused = refused }
   passing_refused ss over h UnexpectedEof refused = record { passed = ss; exchanged = h; passed_over = over; refused = refused }

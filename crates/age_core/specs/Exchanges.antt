@@ -1,10 +1,10 @@
 -- What calls that receive and answer come to, over the connection before and behind them: the
 -- stanzas that were received, in order, and the text that was written.
-use Rattle.std.specs.Prelude.{◌≡◌, ◌≢◌, ℕ, ◌<◌, ◌≤◌, ◌⊎◌, List, [], ◌∷◌, ◌++◌, length, map, codes, Option, Some, IfSome, Result, Ok, Err}
+use Rattle.std.specs.Prelude.{◌≡◌, ℕ, ◌<◌, ◌≤◌, ◌⊎◌, List, [], ◌∷◌, ◌++◌, length, map, Option, Some, IfSome, Result, Ok, Err}
 use Rattle.std.specs.List.{flat_map}
 use Rattle.age_format.specs.declared.format.Stanza.{Stanza as Held-Stanza}
 use Rattle.age_format.specs.declared.error.PhaseError.{PhaseError}
-use Rattle.age_format.specs.declared.error.PhaseError.TheVariants.{NoMemory, WriteFault, ReadFault, InvalidData, UnexpectedEof, TooMuch}
+use Rattle.age_format.specs.declared.error.PhaseError.TheVariants.{NoMemory, WriteFault, ReadFault, InvalidData, UnexpectedEof, TooMuch, UnexpectedReply}
 use Rattle.age_format.specs.Outside.{Rose, Wrote, WrotePart}
 use Rattle.age_format.specs.Stanza.{Stanza, IsFront, stanza_of, spelling}
 use Rattle.age_format.specs.Front.{IsMalformed}
@@ -40,6 +40,7 @@ module _ {R W : Type 0} (left : R → Option (List ℕ)) (reads : R → ℕ) (go
   abbrev pub ReceiveRefused : PhaseError → Type 0
   ReceiveRefused NoMemory = reads (source_of now) ≡ reads (source_of before)
   ReceiveRefused WriteFault = ⊥
+  ReceiveRefused (UnexpectedReply tag) = ⊥
   ReceiveRefused ReadFault = Rose (reads (source_of before)) (reads (source_of now)) × (reads (source_of before) ≤ reads (source_of now)) × IsFront (held_by now).bytes × (0 < (held_by now).budget)
   ReceiveRefused InvalidData = (reads (source_of now) ≡ reads (source_of before)) × IsMalformed (held_by now).bytes
   ReceiveRefused UnexpectedEof = (reads (source_of now) ≡ reads (source_of before)) × IsFront (held_by now).bytes × (0 < (held_by now).budget) × IfSome (left (source_of before)) (λ text. left (source_of now) ≡ Some [])
@@ -87,6 +88,7 @@ module _ {R W : Type 0} (left : R → Option (List ℕ)) (reads : R → ℕ) (go
     PassingRefused InvalidData = RefusedPassing InvalidData
     PassingRefused UnexpectedEof = RefusedPassing UnexpectedEof
     PassingRefused TooMuch = RefusedPassing TooMuch
+    PassingRefused (UnexpectedReply tag) = ⊥
 
     -- why no command was given
     abbrev pub GivesNone : {A : Type 0} → Result A NoCommand → Type 0
@@ -144,3 +146,4 @@ module _ {R W : Type 0} (left : R → Option (List ℕ)) (reads : R → ℕ) (go
     PhaseRefused InvalidData = RefusedAnswering InvalidData
     PhaseRefused UnexpectedEof = RefusedAnswering UnexpectedEof
     PhaseRefused TooMuch = RefusedAnswering TooMuch
+    PhaseRefused (UnexpectedReply tag) = ⊥

@@ -8,6 +8,8 @@ pub mod Replies
 pub mod Exchanges
 -- what is seen of a reply that is owed
 pub mod Replying
+-- phases that send and await a reply to each stanza
+pub mod Asking
 -- what private functions compute: no public clause cites it
 pub mod private
 -- what is seen of a phase that sends

@@ -1,5 +1,6 @@
 //! The plugin protocol: phases of stanzas between two sides.
 
+mod asking;
 mod bidir;
 mod connection;
 mod reply;
@@ -10,6 +11,7 @@ mod unidir;
 
 pub use age_format::{PhaseError, StanzaReader};
 pub use age_send::{finish_to, send_stanza_to, send_to};
+pub use asking::BidirSend;
 pub use bidir::Answer;
 pub use connection::Connection;
 pub use reply::{NoCommand, Reply, Response};

@@ -44,11 +44,11 @@ impl<R: Source, W: Sink> Connection<R, W> {
         ensures held { held_by self.new ≡ held_by self.old }
     {
         match answer {
-            Answer::Ok(body) => self.reply(OK_TAG, &[], body.as_slice()),
+            Answer::Ok(body) => self.write(OK_TAG, &[], body.as_slice()),
             Answer::OkWith(metadata, body) => {
-                self.reply(OK_TAG, metadata.as_slice(), body.as_slice())
+                self.write(OK_TAG, metadata.as_slice(), body.as_slice())
             }
-            Answer::Fail => self.reply(FAIL_TAG, &[], &[]),
+            Answer::Fail => self.write(FAIL_TAG, &[], &[]),
         }
     }
 

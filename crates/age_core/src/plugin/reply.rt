@@ -6,14 +6,14 @@ ghost use Rattle.std.specs.Option.{option_copied, unwrap_or};
 ghost use Rattle.std.specs.String.{string_bytes};
 ghost use Rattle.age_format.specs.Outside.{Writes};
 ghost use Rattle.age_format.specs.Stanza.{IsArbitraryString, stanza_of, spelling};
-ghost use Rattle.age_send.specs.Sending.{stanza_with};
+ghost use Rattle.age_send.specs.Sending.{stanza_with, under_command};
 ghost use Rattle.age_core.specs.Replies.{is_among};
 
 use super::Connection;
 use age_format::PhaseError;
 use age_format::format::Stanza;
 use age_format::outside::{Sink, Source};
-use age_send::write::{WriteFault, age_stanza};
+use age_send::write::{WriteFault, age_stanza, age_stanza_under};
 use std::marker::Model;
 use std::result::Result;
 use thiserror::Error;
@@ -31,7 +31,7 @@ pub(super) const OK_TAG: &str = "ok";
 pub(super) const FAIL_TAG: &str = "fail";
 
 /// The tag of the reply to a command that isn't known.
-const UNSUPPORTED_TAG: &str = "unsupported";
+pub(super) const UNSUPPORTED_TAG: &str = "unsupported";
 
 /// Why no command was given.
 #[derive(Debug, PartialEq, Eq, Error, Drop)]
@@ -102,8 +102,8 @@ impl<R: Source, W: Sink> Connection<R, W> {
     ghost use Rattle.age_core.specs.Replying.{connection_of};
     ghost use Rattle.age_core.specs.Exchanges.{GivesCommand, GivesNone, NextUnread};
 
-    /// Writes a reply.
-    pub(super) fn reply(
+    /// Writes a stanza.
+    pub(super) fn write(
         &mut self,
         tag: &str,
         metadata: &[String],
@@ -118,13 +118,31 @@ impl<R: Source, W: Sink> Connection<R, W> {
         age_stanza(&mut self.sink, tag, metadata, body)
     }
 
+    /// Writes a stanza under a command.
+    pub(super) fn write_under(
+        &mut self,
+        command: &str,
+        metadata: &[String],
+        stanza: &Stanza,
+    ) -> Result<(), WriteFault>
+        requires command { IsArbitraryString command.now }
+        requires metadata { AllByRecursion IsArbitraryString (map string_bytes metadata.now) }
+        requires tag { IsArbitraryString (string_bytes stanza.now.tag) }
+        requires args { AllByRecursion IsArbitraryString (map string_bytes stanza.now.args.items) }
+        ensures written { Writes W.got W.faults W.plan (sink_of self.old) (sink_of self.new) result (spelling (under_command command.now (map string_bytes metadata.now) (stanza_of stanza.now))) }
+        ensures source { source_of self.new ≡ source_of self.old }
+        ensures held { held_by self.new ≡ held_by self.old }
+    {
+        age_stanza_under(&mut self.sink, command, metadata, stanza)
+    }
+
     /// Writes the reply to a stanza that isn't known.
     pub(super) fn reply_unsupported(&mut self) -> Result<(), WriteFault>
         ensures written { Writes W.got W.faults W.plan (sink_of self.old) (sink_of self.new) result (spelling unsupported_reply) }
         ensures source { source_of self.new ≡ source_of self.old }
         ensures held { held_by self.new ≡ held_by self.old }
     {
-        self.reply(UNSUPPORTED_TAG, &[], &[])
+        self.write(UNSUPPORTED_TAG, &[], &[])
     }
 
     /// The next stanza whose tag is one of these commands. Stanzas before it are passed over, each
@@ -202,7 +220,7 @@ impl<R: Source, W: Sink> Reply<'_, R, W> {
             Some(bytes) => bytes,
         };
         Response {
-            written: connection.reply(OK_TAG, metadata, body),
+            written: connection.write(OK_TAG, metadata, body),
         }
     }
 
@@ -214,7 +232,7 @@ impl<R: Source, W: Sink> Reply<'_, R, W> {
     {
         let Reply { connection } = self;
         Response {
-            written: connection.reply(FAIL_TAG, &[], &[]),
+            written: connection.write(FAIL_TAG, &[], &[]),
         }
     }
 }

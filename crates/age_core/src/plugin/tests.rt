@@ -1,10 +1,10 @@
 //! What no clause says: that each call succeeds with memory, and in which order a phase calls its closures.
 
-ghost use Rattle.std.specs.Prelude.{◌≤◌};
+pub(super) mod words;
 
 use super::*;
 use age_format::format::Stanza;
-use age_format::outside::{MemSink, MemSource, Sink, Source, StdSink, StdSource};
+use age_format::outside::{MemSink, MemSource, StdSink, StdSource};
 use std::alloc::{AllocError, Global};
 use std::cell::Cell;
 use std::test::Fail;
@@ -12,25 +12,22 @@ use std::test::Fail;
 /// More than any text has.
 const BUDGET: u64 = 65_536;
 
-/// A source of a text, with a part of it repeated, in pieces.
-fn source_of(
+/// A connection over a text, whose sink fails at these writes.
+pub(super) fn connection_over(
     alloc: Global,
-    front: &[u8],
-    part: &[u8],
-    count: usize,
-    piece: usize,
-) -> std::result::Result<MemSource, AllocError>
-    requires { 1 ≤ piece }
-{
-    let mut text = Vec::from_slice(alloc, front)?;
-    for _ in 0..count {
-        text.extend_from_slice(part)?;
-    }
-    Ok(MemSource::new(text, piece, Vec::new(alloc)))
+    text: &[u8],
+    fail_at: &[u64],
+) -> std::result::Result<Connection<MemSource, MemSink>, AllocError> {
+    let source = MemSource::new(Vec::from_slice(alloc, text)?, 5, Vec::new(alloc));
+    let sink = MemSink::new(alloc, Vec::from_slice(alloc, fail_at)?);
+    Ok(Connection::new(alloc, source, sink, BUDGET))
 }
 
-/// A text of stanzas: `done` is the third.
-const STANZAS: &[u8] = b"-> a b c\n\n-> test foo\nYmFy\n-> done\n\n-> x\n/\n";
+/// Whether the sink of a connection got this.
+pub(super) fn has_written(connection: Connection<MemSource, MemSink>, want: &[u8]) -> bool {
+    let (_, sink) = connection.into_parts();
+    sink.bytes() == want
+}
 
 /// What a closure of a command does in the tests: it notes the command and the length of the body as
 /// two digits, and errs at stanzas without arguments.
@@ -76,68 +73,51 @@ fn closures_are_called_in_the_order_of_their_stanzas(
 ) -> std::result::Result<(), Fail> {
     let text =
         b"-> a x\nYQ\n-> odd\n\n-> b x\n\n-> a\nYmE\n-> a x\n\n-> a\n\n-> done x\n\n-> a\n\n";
-    let mut sink = MemSink::new(rt.alloc(), Vec::new(rt.alloc()));
-    assert_eq!(rt; sink.write(b"kept"), Ok(4));
-    let source = source_of(rt.alloc(), text, b"", 0, 7)?;
-    let mut connection = Connection::new(rt.alloc(), source, sink, BUDGET);
+    let mut connection = connection_over(rt.alloc(), text, &[])?;
     let (phase, log) = phase_of(&mut connection, "a", Some("b"), Some("done"));
     assert_eq!(rt; log, 11_30_12_10_10);
     let phase = phase.ok().ok_or("a phase")?;
     let a = phase.a.err().ok_or("errors")?;
     assert_eq!(rt; a.as_slice(), [2, 0].as_slice());
-    let b = phase.b.ok().ok_or("values")?;
-    assert_eq!(rt; b.len(), 0);
     let c = phase.c.ok_or("asked")?.ok().ok_or("values")?;
     assert_eq!(rt; c.as_slice(), [0].as_slice());
-    let d = phase.d.ok_or("asked")?.ok().ok_or("values")?;
-    assert_eq!(rt; d.len(), 0);
-
-    // What follows `done` stays held; the source and the sink are as they are.
-    let next = connection.receive().ok().ok_or("a stanza")?;
-    assert_eq!(rt; next.tag.as_str(), "a");
-    assert_eq!(rt; connection.receive().err(), Some(PhaseError::UnexpectedEof));
-    let (source, sink) = connection.into_parts();
-    assert_eq!(rt; source.reads(), 11);
-    assert_eq!(rt; sink.bytes(), b"kept".as_slice());
     Ok(())
 }
 
-/// Texts of the commands `a`, `b` and none, how their phase ends, and which closures were called.
-const PHASES: [(&[u8], Option<PhaseError>, u64); 4] = [
-    (b"-> c x\n\n-> a x\nYQ\n-> d\n\n-> done\n\n", None, 11),
-    (
-        b"-> b\nYQ\n-> a\n\n-> a x\nYWE\n-> \n",
-        Some(PhaseError::InvalidData),
-        21_10_12,
-    ),
-    (
-        b"-> a x\nYQ\n-> b\n\n-> done\n",
-        Some(PhaseError::UnexpectedEof),
-        11_20,
-    ),
-    (b"", Some(PhaseError::UnexpectedEof), 0),
-];
+/// A text as a phase of the commands `a`, `b` and none takes it: how it ends, and which closures were called.
+fn refusal_of(
+    alloc: Global,
+    text: &[u8],
+) -> std::result::Result<(Option<PhaseError>, u64), AllocError> {
+    let mut connection = connection_over(alloc, text, &[])?;
+    let (phase, log) = phase_of(&mut connection, "b", None, None);
+    Ok((phase.err(), log))
+}
 
 #[test]
 fn a_refusal_comes_behind_the_calls_before_it(rt: HostRuntime) -> std::result::Result<(), Fail> {
-    for (text, want, calls) in PHASES {
-        let source = source_of(rt.alloc(), text, b"", 0, 9)?;
-        let sink = MemSink::new(rt.alloc(), Vec::new(rt.alloc()));
-        let mut connection = Connection::new(rt.alloc(), source, sink, BUDGET);
-        let (phase, log) = phase_of(&mut connection, "b", None, None);
-        assert_eq!(rt; log, calls);
-        assert_eq!(rt; phase.err(), want);
-    }
+    let whole = b"-> c x\n\n-> a x\nYQ\n-> d\n\n-> done\n\n";
+    assert!(rt; matches!(refusal_of(rt.alloc(), whole)?, (None, 11)));
+    let malformed = b"-> b\nYQ\n-> a\n\n-> a x\nYWE\n-> \n";
+    let refusal = refusal_of(rt.alloc(), malformed)?;
+    assert!(rt; matches!(refusal, (Some(PhaseError::InvalidData), 21_10_12)));
+    let ended = b"-> a x\nYQ\n-> b\n\n-> done\n";
+    let refusal = refusal_of(rt.alloc(), ended)?;
+    assert!(rt; matches!(refusal, (Some(PhaseError::UnexpectedEof), 11_20)));
     Ok(())
+}
+
+/// The tag of the first stanza of a connection over a reader and a writer.
+fn first_tag(alloc: Global, text: &[u8]) -> Option<String> {
+    let output = StdSink::new(Vec::new(alloc));
+    let mut connection = Connection::accept(alloc, StdSource::new(text), output, BUDGET);
+    Some(connection.receive().ok()?.tag)
 }
 
 #[test]
 fn a_connection_over_a_reader_and_a_writer(rt: HostRuntime) -> std::result::Result<(), Fail> {
-    let input = StdSource::new(STANZAS);
-    let output = StdSink::new(Vec::new(rt.alloc()));
-    let mut connection = Connection::accept(rt.alloc(), input, output, BUDGET);
-    let stanza = connection.receive().ok().ok_or("a stanza")?;
-    assert_eq!(rt; stanza.tag.as_str(), "a");
+    let tag = first_tag(rt.alloc(), b"-> a b c\n\n-> test foo\nYmFy\n");
+    assert_eq!(rt; tag.ok_or("a stanza")?.as_str(), "a");
     Ok(())
 }
 

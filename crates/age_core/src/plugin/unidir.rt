@@ -228,6 +228,7 @@ impl<R: Source, W: Sink> Connection<R, W> {
             × IsFront (held_by self.new).bytes × (0 < (held_by self.new).budget) }
         ensures no_fault { (IsErrOf result PhaseError.ReadFault → ⊥) → R.faults (source_of self.new) ≡ R.faults (source_of self.old) }
         ensures no_write_fault { IsErrOf result PhaseError.WriteFault → ⊥ }
+        ensures no_unexpected_reply { (tag : _) → IsErrOf result (PhaseError.UnexpectedReply tag) → ⊥ }
         ensures invalid_data { IsErrOf result PhaseError.InvalidData → IsMalformed (held_by self.new).bytes }
         ensures unexpected_eof { IsErrOf result PhaseError.UnexpectedEof → IsFront (held_by self.new).bytes × (0 < (held_by self.new).budget)
             × IfSome (R.left (source_of self.old)) (λ text. R.left (source_of self.new) ≡ Some []) }

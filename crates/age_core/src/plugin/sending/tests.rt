@@ -1,95 +1,57 @@
-//! One call of each function of a phase that sends, over a random source that counts.
-
-ghost use Rattle.std.specs.Prelude.{ℕ, ◌+◌, ◌^◌, ◌%◌};
-ghost use Rattle.rand_core.specs.Steps.{stream_of, steps_u32};
+//! One call of each function of a phase that sends. The texts come from an independent model.
 
 use super::*;
 use crate::format::read::age_stanza;
 use crate::format::write;
-use age_format::outside::{CleanSource, MemSink};
-use rand_core::utils::{self, NextWord};
-use std::alloc::Global;
-use std::marker::Model;
+use crate::plugin::tests::words::{NO_GREASE, Words};
+use crate::plugin::tests::{connection_over, has_written};
+use age_format::outside::{MemSink, MemSource};
+use std::alloc::{AllocError, Global};
 use std::test::Fail;
 
-/// A source of the words n, n + 1, n + 2 and so on.
-#[derive(Drop)]
-struct Counting(u32);
-
-impl Model for Counting {
-    ghost Value = { ℕ };
-
-    ghost view = { λ counting. counting.0 };
-}
-
-impl NextWord<u32> for Counting {
-    ghost step = { λ n. (n, (n + 1) % 2 ^ 32) };
-
-    fn next_word(&mut self) -> u32 {
-        let word = self.0;
-        self.0 = word.wrapping_add(1);
-        word
-    }
-}
-
-impl Rng for Counting {
-    ghost stream = { stream_of (steps_u32 (λ n. (n, (n + 1) % 2 ^ 32))) };
-
-    fn next_u32(&mut self) -> u32 {
-        self.next_word()
-    }
-
-    fn next_u64(&mut self) -> u64 {
-        utils::next_u64_via_u32(self)
-    }
-
-    fn fill_bytes(&mut self, dst: &mut [u8]) {
-        utils::fill_bytes_via_u32(self, dst)
-    }
-}
-
-/// A connection that receives nothing, over a sink that never fails.
-fn connection(alloc: Global) -> Connection<CleanSource, MemSink> {
-    Connection::new(
-        alloc,
-        CleanSource::new(Vec::new(alloc)),
-        MemSink::new(alloc, Vec::new(alloc)),
-        0,
-    )
+/// Whether a phase of one command is sent to its end.
+fn sends(
+    alloc: Global,
+    connection: &mut Connection<MemSource, MemSink>,
+) -> Result<bool, AllocError> {
+    let metadata = [String::from_str(alloc, "foo")?];
+    let mut rng = Words::new(&NO_GREASE);
+    let mut phase = connection.unidir_send(&mut rng);
+    let sent = phase.send("test", &metadata, b"bar").is_ok();
+    let ended = phase.finish().is_ok();
+    Ok(sent & ended)
 }
 
 #[test]
 fn a_phase_sends_and_ends_with_done(rt: HostRuntime) -> Result<(), Fail> {
-    let alloc = rt.alloc();
-    let mut connection = connection(alloc);
-    let mut rng = Counting(5);
-    let metadata = [String::from_str(alloc, "foo")?];
-    let mut phase = connection.unidir_send(&mut rng);
-    assert!(rt; phase.send("test", &metadata, b"bar").is_ok());
-    assert!(rt; phase.finish().is_ok());
-    let (_, sink) = connection.into_parts();
-    assert_eq!(rt; sink.bytes(), b"-> test foo\nYmFy\n-> done\n\n".as_slice());
+    let mut connection = connection_over(rt.alloc(), b"", &[])?;
+    assert!(rt; sends(rt.alloc(), &mut connection)?);
+    assert!(rt; has_written(connection, b"-> test foo\nYmFy\n-> done\n\n"));
     Ok(())
 }
 
-#[test]
-fn an_abandoned_phase_sends_no_done(rt: HostRuntime) -> Result<(), Fail> {
-    let alloc = rt.alloc();
-    let mut connection = connection(alloc);
-    let mut rng = Counting(5);
+/// Whether a stanza is sent, in a phase that is abandoned then.
+fn sends_stanza(
+    alloc: Global,
+    connection: &mut Connection<MemSource, MemSink>,
+) -> Result<bool, AllocError> {
     let stanza = Stanza {
         tag: String::from_str(alloc, "piv-p256")?,
         args: Vec::new(alloc),
         body: Vec::new(alloc),
     };
+    let mut rng = Words::new(&NO_GREASE);
     let mut phase = connection.unidir_send(&mut rng);
-    assert!(rt; phase.send_stanza("recipient-stanza", &[], &stanza).is_ok());
+    let sent = phase.send_stanza("recipient-stanza", &[], &stanza).is_ok();
     phase.abandon();
-    let (_, sink) = connection.into_parts();
-    assert_eq!(rt;
-        sink.bytes(),
-        b"-> recipient-stanza piv-p256\n\n".as_slice()
-    );
+    Ok(sent)
+}
+
+#[test]
+fn an_abandoned_phase_sends_no_done(rt: HostRuntime) -> Result<(), Fail> {
+    let mut connection = connection_over(rt.alloc(), b"", &[])?;
+    assert!(rt; sends_stanza(rt.alloc(), &mut connection)?);
+    assert!(rt; has_written(connection, b"-> recipient-stanza piv-p256\n\n"));
     Ok(())
 }
 

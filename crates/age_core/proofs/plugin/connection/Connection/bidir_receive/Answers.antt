@@ -4,11 +4,11 @@ use Rattle.std.specs.List.{flat_map}
 use Rattle.std.specs.String.{string_bytes}
 use Rattle.std.proofs.lemmas.List.{append-nil, map_push}
 use Rattle.age_format.specs.Stanza.{Stanza, stanza_of, spelling}
-use Rattle.age_format.specs.Reading.{NoneDone, StandsBeforeDone}
+use Rattle.age_format.specs.Reading.{NoneDone}
 use Rattle.age_format.specs.Receiving.{Held}
 use Rattle.age_format.proofs.Dones.{none_done-push, not_done, is_done}
 use Rattle.age_format.proofs.Receipts.{held_more, held_unread, receives_less}
-use Rattle.age_core.specs.Connecting.{source_of, sink_of, held_by}
+use Rattle.age_core.specs.Connecting.{source_of, held_by}
 use Rattle.age_core.specs.Exchanges.{Exchanged, PhaseRefused}
 use Rattle.age_core.proofs.Exchanges.{last_text, exchanged_none, exchanged_received, exchanged_wrote, interrupted, little_none, little_received, little_wrote, refused_first}
 use Rattle.age_core.proofs.Handling.{if_err_at, held_same, replies_more, may_answer, phase_refused}
@@ -34,7 +34,7 @@ returns-in_err-stanza-clause-refused g c =
     let stanzas : List Stanza = map stanza_of inv.replied.0 in
     let text : List ℕ = flat_map spelling inv.replied.1 in
     let e = c.in_err-stanza.field-0.0 in
-    let refused = refused_first source.left source.faults sink.got sink.faults sink.plan c.args.self.now c.loop-handler.self c.receive.new.self inv.little.no_fault inv.replied.4.received.taken inv.replied.4.received.told e receive.read_fault receive.no_fault receive.no_write_fault receive.invalid_data receive.unexpected_eof receive.too_much receive.faults in
+    let refused = refused_first source.left source.faults sink.got sink.faults sink.plan c.args.self.now c.loop-handler.self c.receive.new.self inv.little.no_fault inv.replied.4.received.taken inv.replied.4.received.told e receive.read_fault receive.no_fault receive.no_write_fault receive.invalid_data receive.unexpected_eof receive.too_much receive.no_unexpected_reply receive.faults in
     let all = exchanged_received source.left source.faults sink.got sink.faults sink.plan c.args.self.now c.loop-handler.self c.receive.new.self stanzas [] text inv.replied.4 receive.kept receive.sink in
     let same = subst (λ (ss : List Stanza). Exchanged source.left source.faults sink.got sink.faults sink.plan c.args.self.now c.receive.new.self ss text) (append-nil stanzas) all in
     if_err_at (PhaseRefused source.left source.faults sink.got sink.faults sink.plan c.args.self.now c.receive.new.self (CalledAt g.F.FnMut) tags c.args.handler) c.from_residual.result e c.from_residual.ensures.1

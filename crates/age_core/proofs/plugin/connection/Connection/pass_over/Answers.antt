@@ -1,11 +1,11 @@
-use Rattle.std.proofs.Common.{◌≡◌, ◌+◌, ◌<◌, List, ℕ, [], ◌∷◌, ◌++◌, length, map, sym, subst, ◌∙◌}
+use Rattle.std.proofs.Common.{◌+◌, ◌<◌, List, ℕ, [], ◌∷◌, ◌++◌, length, map, sym, subst, ◌∙◌}
 use Rattle.std.specs.String.{string_bytes}
 use Rattle.std.proofs.lemmas.List.{append-nil}
 use Rattle.age_format.specs.Stanza.{Stanza, stanza_of, spelling}
 use Rattle.age_format.specs.Receiving.{Held}
 use Rattle.age_format.proofs.Dones.{not_done, is_done}
 use Rattle.age_format.proofs.Receipts.{receives_less}
-use Rattle.age_core.specs.Connecting.{source_of, sink_of, held_by}
+use Rattle.age_core.specs.Connecting.{source_of, held_by}
 use Rattle.age_core.specs.Replies.{IsPassedOver, unsupported_reply, unsupported_text}
 use Rattle.age_core.specs.Exchanges.{Exchanged}
 use Rattle.age_core.proofs.Exchanges.{last_text, exchanged_received, exchanged_wrote, interrupted, little_received, little_wrote, refused_first}
@@ -19,7 +19,7 @@ returns-in_err-stanza-clause-none g c =
     let tags : List (List ℕ) = map string_bytes c.args.commands.now in
     let inv = c.loop-stanza.invariant in
     let receive = c.in_err-stanza.ensures in
-    let refused = refused_first source.left source.faults sink.got sink.faults sink.plan c.args.self.now c.loop-stanza.self c.receive.new.self inv.little.no_fault inv.passed.2.received.taken inv.passed.2.received.told c.in_err-stanza.field-0.0 receive.read_fault receive.no_fault receive.no_write_fault receive.invalid_data receive.unexpected_eof receive.too_much receive.faults in
+    let refused = refused_first source.left source.faults sink.got sink.faults sink.plan c.args.self.now c.loop-stanza.self c.receive.new.self inv.little.no_fault inv.passed.2.received.taken inv.passed.2.received.told c.in_err-stanza.field-0.0 receive.read_fault receive.no_fault receive.no_write_fault receive.invalid_data receive.unexpected_eof receive.too_much receive.no_unexpected_reply receive.faults in
     let all = exchanged_received source.left source.faults sink.got sink.faults sink.plan c.args.self.now c.loop-stanza.self c.receive.new.self inv.passed.0 [] (unsupported_text inv.passed.0) inv.passed.2 receive.kept receive.sink in
     let same = subst (λ (ss : List Stanza). Exchanged source.left source.faults sink.got sink.faults sink.plan c.args.self.now c.receive.new.self ss (unsupported_text inv.passed.0)) (append-nil inv.passed.0) all in
     gives_none source.left source.faults sink.got sink.faults sink.plan c.args.self.now c.receive.new.self tags c.from_residual.result c.in_err-stanza.field-0.0 c.from_residual.ensures.1
