@@ -73,7 +73,8 @@ impl Model for Response {
 }
 
 impl Response {
-    /// Whether the whole reply was written. `WriteFault` comes exactly where it wasn't.
+    /// Whether every write of the reply succeeded, which wrote the whole of it; `WriteFault` comes where one
+    /// failed.
     pub fn result(self) -> Result<(), WriteFault>
         ensures { is_ok result ≡ self }
     {
