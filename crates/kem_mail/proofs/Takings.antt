@@ -18,7 +18,7 @@ use Rattle.kem_mail.specs.Taken.{Lost, IsShortBehindDone, StoppedBy}
 use Rattle.kem_mail.specs.private.Causes.{ComesOf}
 use Rattle.kem_mail.specs.private.Opening.{IsRead, IsRefusedFor, ReadTaken}
 use Rattle.kem_mail.specs.declared.error.MailError.{MailError}
-use Rattle.kem_mail.specs.declared.error.MailError.TheVariants.{NoMemory, ReadFault, InvalidData, UnexpectedEof, TooMuch}
+use Rattle.kem_mail.specs.declared.error.MailError.TheVariants.{NoMemory, ReadFault, UnexpectedEof}
 
 -- the spellings of a stanza and of those after it
 cons_text : (s : Stanza) (ss : List Stanza) (more : List ℕ) → flat_map spelling (s ∷ ss) ++ more ≡ spelling s ++ (flat_map spelling ss ++ more)

@@ -1,5 +1,5 @@
 -- The stanzas of a mail.
-use Rattle.std.specs.Prelude.{◌≡◌, ℕ, ◌≤◌, List, length, Result, Ok, Err}
+use Rattle.std.specs.Prelude.{ℕ, ◌≤◌, List, length, Result, Ok, Err}
 use Rattle.age_format.specs.Stanza.{Stanza}
 use Rattle.age_format.specs.Reading.{Reads, Before_done, Invalid_data, Unexpected_eof, Too_much}
 use Rattle.age_format.specs.declared.error.PhaseError.{PhaseError}
