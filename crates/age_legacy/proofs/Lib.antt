@@ -1,0 +1,4 @@
+pub mod Characters
+pub mod Runs
+pub mod Bodies
+pub mod Readings

@@ -1,0 +1,2 @@
+-- what a text comes to for the legacy reader
+pub mod Legacy
