@@ -14,7 +14,7 @@ use Rattle.mail_commands.specs.Lines.{no_command_line}
 use Rattle.kem_mail.specs.Mail.{IsVerdict, OpensByKey, SameBodies, Verdict}
 use Rattle.mail_commands.specs.Due.{Due, ComesTo, EndsWith, Ends, Fails, IsAnswer, IsInput, Outcome, Seals, key_verdict, mail_outcome, of_verdict, outcome_output, outcome_status}
 use Rattle.mail_commands.specs.declared.command.Command.{Command}
-use Rattle.mail_commands.specs.declared.command.Command.TheVariants.{Open, Key, Seal}
+use Rattle.mail_commands.specs.declared.command.Command.TheVariants.{Open, Key, Seal, Gen}
 use Rattle.mail_commands.specs.declared.command.SuiteName.{SuiteName}
 use Rattle.mail_commands.specs.declared.command.SetName.{SetName}
 use Rattle.mail_commands.specs.declared.command.SetName.TheVariants.{Set512, Set768, Set1024}
@@ -29,6 +29,7 @@ use Rattle.mail_commands.proofs.Joins.{Begins-whole, one_stop, stops_no_begin}
 use Rattle.mail_commands.proofs.SealInputs.{one_key, one_info, one_source, one_message_list, some_seal_input}
 use Rattle.mail_commands.proofs.SealKeys.{is_key}
 use Rattle.mail_commands.proofs.Runs.{ends_verdict}
+use Rattle.generated_mail.proofs.Mails.{same_told, some_told, told_verdict}
 use Rattle.kem_mail.proofs.Keyed.{by_key_verdict, same_bodies_by_key, same_by_key, some_by_key}
 
 -- ---- words
@@ -88,6 +89,15 @@ words_of-injective (Key s) (Open t d) words h k e = absurd cc
 words_of-injective (Key s) (Seal t) words h k e = absurd cc
 words_of-injective (Seal s) (Open t d) words h k e = absurd cc
 words_of-injective (Seal s) (Key t) words h k e = absurd cc
+words_of-injective (Open s b) (Gen d) words h k e = absurd cc
+words_of-injective (Key s) (Gen d) words h k e = absurd (let different = heads (codes "key") (codes "gen") _ _ e in let d : 107 ≡ 103 = ap (λ (l : List ℕ). get_or l 0 0) different.0 in omega (arith, d))
+words_of-injective (Seal s) (Gen d) words h k e = absurd cc
+words_of-injective (Gen b) (Open t d) words h k e = absurd cc
+words_of-injective (Gen b) (Key t) words h k e = absurd (let different = heads (codes "gen") (codes "key") _ _ e in let d : 103 ≡ 107 = ap (λ (l : List ℕ). get_or l 0 0) different.0 in omega (arith, d))
+words_of-injective (Gen b) (Seal t) words h k e = absurd cc
+words_of-injective (Gen b) (Gen d) words h k e =
+    let numbers = heads (decimal b) (decimal d) [] [] (heads (codes "gen") (codes "gen") _ _ e).1 in
+    ap Gen (let p = h.is_command in let q = k.is_command in decimal_injective b d (omega (arith, p)) (omega (arith, q)) numbers.0)
 words_of-injective (Seal s) (Seal t) words h k e =
     let sets = heads (codes "seal") (codes "seal") _ _ e in
     let kdfs = heads (set_word s.set) (set_word t.set) _ _ sets.1 in
@@ -143,6 +153,7 @@ same_comes family (Key set) text o p (line, seed, rest, whole, is, comes) (line'
     let both = one_line_end 128 128 line line' rest rest' (seed, is) (seed', is') (sym whole ∙ whole') in
     let value = one_line_value 128 128 line seed seed' is (subst (λ (t : List ℕ). IsSeedLine t seed') (sym both.0) is') in
     comes ∙ (ap (λ (t : List ℕ). of_verdict (key_verdict (key_of (parameters set) family t))) value ∙ sym comes')
+same_comes family (Gen count) text o p (v, told, comes) (w, told', comes') = comes ∙ (ap of_verdict (same_told family count v w told told') ∙ sym comes')
 same_comes family (Seal suite) text o p (key, info, source, messages, is, seals) (key', info', source', messages', is', seals') =
     let size = (parameters suite.set).ek_size in
     same_seals (parameters suite.set) family (kdf_algorithm suite.kdf) (aead_algorithm suite.aead) (aead_seal suite.aead) key info source messages o p seals
@@ -173,21 +184,25 @@ seals_end family suite text key info source messages is o seals =
 comes_no_fails : (family : Family) (command : Command) (text : List ℕ) (o : Outcome) (place : ℕ) → ComesTo family command text o → Fails command text place → ⊥
 comes_no_fails family (Open suite budget) text o place (head, seed, info, rest, v, whole, is, opens, same) f = whole_no_fails (IsInput (Open suite budget)) (one_input_end (Open suite budget) tt) text head rest place whole (seed, info, is) f
 comes_no_fails family (Key set) text o place (line, seed, rest, whole, is, comes) f = whole_no_fails (IsInput (Key set)) (one_input_end (Key set) tt) text line rest place whole (seed, is) f
+comes_no_fails family (Gen count) text o place made f = whole_no_fails (IsInput (Gen count)) (one_input_end (Gen count) tt) text [] text place refl refl f
 comes_no_fails family (Seal suite) text o place (key, info, source, messages, is, seals) f = stops_no_begin (IsInput (Seal suite)) text place f (Begins-whole (IsInput (Seal suite)) text (key, info, source, messages, is))
 
 comes_no_end : (family : Family) (command : Command) (text : List ℕ) (o : Outcome) → ComesTo family command text o → Ends command text → ⊥
 comes_no_end family (Open suite budget) text o (head, seed, info, rest, v, whole, is, opens, same) p = whole_no_part (IsInput (Open suite budget)) (one_input_end (Open suite budget) tt) text head rest whole (seed, info, is) p
 comes_no_end family (Key set) text o (line, seed, rest, whole, is, comes) p = whole_no_part (IsInput (Key set)) (one_input_end (Key set) tt) text line rest whole (seed, is) p
+comes_no_end family (Gen count) text o made p = whole_no_part (IsInput (Gen count)) (one_input_end (Gen count) tt) text [] text refl refl p
 comes_no_end family (Seal suite) text o (key, info, source, messages, is, seals) p = p.1 (key, info, source, messages, is)
 
 one_fail : (command : Command) (text : List ℕ) (place other : ℕ) → Fails command text place → Fails command text other → place ≡ other
 one_fail (Open suite budget) text place other f h = one_place (IsInput (Open suite budget)) text place other f h
 one_fail (Key set) text place other f h = one_place (IsInput (Key set)) text place other f h
+one_fail (Gen count) text place other f h = one_place (IsInput (Gen count)) text place other f h
 one_fail (Seal suite) text place other f h = one_stop (IsInput (Seal suite)) text place other f h
 
 fails_no_end : (command : Command) (text : List ℕ) (place : ℕ) → Fails command text place → Ends command text → ⊥
 fails_no_end (Open suite budget) text place f p = fails_no_part (IsInput (Open suite budget)) text place f p
 fails_no_end (Key set) text place f p = fails_no_part (IsInput (Key set)) text place f p
+fails_no_end (Gen count) text place f p = fails_no_part (IsInput (Gen count)) text place f p
 fails_no_end (Seal suite) text place f p = stops_no_begin (IsInput (Seal suite)) text place f p.0
 
 -- a command ends with what it comes to, or with a fault of its input
@@ -244,6 +259,7 @@ comes_answer family (Open suite budget) text o (head, seed, info, rest, v, whole
     (verdict_answer v (by_key_verdict (parameters suite.set) family (kdf_algorithm suite.kdf) (aead_algorithm suite.aead) (aead_open suite.aead) seed info rest budget v opens))
 comes_answer family (Key set) text o (line, seed, rest, whole, is, comes) =
     subst (λ (x : Outcome). IsAnswer (outcome_status x)) (sym comes) (verdict_answer (key_verdict (key_of (parameters set) family seed)) (key_is_verdict (key_of (parameters set) family seed)))
+comes_answer family (Gen count) text o (v, told, comes) = subst (λ (x : Outcome). IsAnswer (outcome_status x)) (sym comes) (verdict_answer v (told_verdict family count v told))
 comes_answer family (Seal suite) text o (key, info, source, messages, is, seals) =
     seals_answer (parameters suite.set) family (kdf_algorithm suite.kdf) (aead_algorithm suite.aead) (aead_seal suite.aead) key info source messages o seals
 
@@ -310,6 +326,9 @@ some_comes family (Key set) text (input, rest, whole, (seed, is)) none =
     let v = key_verdict (key_of (parameters set) family seed) in
     let comes : ComesTo family (Key set) text (of_verdict v) = (input, seed, rest, whole, is, refl) in
     none (of_verdict v) comes (ends_verdict family (Key set) text v comes)
+some_comes family (Gen count) text has none = some_told family count (λ v told.
+    let comes : ComesTo family (Gen count) text (of_verdict v) = (v, told, refl) in
+    none (of_verdict v) comes (ends_verdict family (Gen count) text v comes))
 some_comes family (Seal suite) text (key, info, source, messages, is) none =
     let seals = some_seals (parameters suite.set) family (kdf_algorithm suite.kdf) (aead_algorithm suite.aead) (aead_seal suite.aead) key info source messages in
     let comes : ComesTo family (Seal suite) text seals.0 = (key, info, source, messages, is, seals.1) in
@@ -322,6 +341,7 @@ due_by family words text command outcome spelled ends = inl (record { command = 
 some_stands : (command : Command) (text : List ℕ) → HasInput command text ⊎ (((place : ℕ) × Fails command text place) ⊎ Ends command text)
 some_stands (Open suite budget) text = some_head text
 some_stands (Key set) text = some_line 128 128 (omega arith) refl text
+some_stands (Gen count) text = inl ([], text, refl, refl)
 some_stands (Seal suite) text = some_seal_input (parameters suite.set).ek_size text
 
 some_of_command : (family : Family) (words : List (List ℕ)) (text : List ℕ) (command : Command) → Spells words command

@@ -9,7 +9,7 @@ use Rattle.hex.specs.Hex.{decode_of, is_hex_digit}
 use Rattle.hex.proofs.HexLemmas.{decode_of-ok, decode_of-digits, decode_of-same}
 use Rattle.mail_commands.specs.Due.{IsInput}
 use Rattle.mail_commands.specs.declared.command.Command.{Command}
-use Rattle.mail_commands.specs.declared.command.Command.TheVariants.{Open, Key, Seal}
+use Rattle.mail_commands.specs.declared.command.Command.TheVariants.{Open, Key, Seal, Gen}
 use Rattle.mail_commands.specs.Input.{IsLine, IsLineText, IsHead, IsHeadText, IsPart, BeginsNone, FailsAt}
 use Rattle.std.specs.Prelude.{IfSome, IfOk, IfErr}
 use Rattle.std.specs.Char.{is_ascii_hexdigit}
@@ -637,8 +637,13 @@ abbrev pub IsAlone : Command → Type 0
 IsAlone (Seal suite) = ⊥
 IsAlone command = Unit {0}
 
+-- nothing is the one input of `gen`
+nothing_end : (a b more rest : List ℕ) → a ≡ [] → b ≡ [] → a ++ more ≡ b ++ rest → (a ≡ b) × (more ≡ rest)
+nothing_end a b more rest none other e = (none ∙ sym other, ap (λ (t : List ℕ). t ++ more) (sym none) ∙ (e ∙ ap (λ (t : List ℕ). t ++ rest) other))
+
 -- no input of such a command begins another
 pub one_input_end : (command : Command) → IsAlone command → NoneBeginsAnother (IsInput command)
 one_input_end (Open suite budget) is = one_head_end
 one_input_end (Key set) is = one_line_end 128 128
 one_input_end (Seal suite) is = absurd is
+one_input_end (Gen count) is = nothing_end

@@ -7,5 +7,6 @@ pub mod SealKeys
 pub mod Runs
 pub mod Dues
 pub mod Sealings
+pub mod Generations
 pub mod Tellings
 pub mod Headlines

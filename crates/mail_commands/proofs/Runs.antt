@@ -1,5 +1,5 @@
 -- What a run takes of its source, and what it ends with.
-use Rattle.std.proofs.Common.{◌≡◌, ◌≢◌, ℕ, ◌+◌, ◌≤◌, List, [], ◌++◌, length, take, Option, Some, None, Ok, Err, refl, sym, ap, subst, ◌∙◌, ◌⊎◌, inl, inr, arith}
+use Rattle.std.proofs.Common.{◌≡◌, ◌≢◌, ℕ, ◌+◌, ◌≤◌, List, [], ◌∷◌, ◌++◌, length, take, Option, Some, None, Ok, Err, refl, sym, ap, subst, ◌∙◌, ◌⊎◌, inl, inr, arith}
 use Rattle.std.specs.Prelude.{IfSome}
 use Rattle.std.proofs.lemmas.List.{append-nil, length-append, nil_from_length, take-append-le, take-take}
 use Rattle.kem_hash.specs.Family.{Family}
@@ -11,10 +11,12 @@ use Rattle.kem_mail.specs.Mail.{IsVerdict, OpensByKey, Verdict}
 use Rattle.mail_commands.specs.Due.{ComesTo, EndsWith, Ends, Fails, IsAnswer, IsInput, Outcome, key_verdict, of_verdict, outcome_status}
 use Rattle.kem_mail.specs.Taken.{Lost, IsTaken}
 use Rattle.mail_commands.specs.Taken.{StopsWithin, InputTakes, Reaches, OpenTakes, RefusalTakes, IsAtEnd, MostTakes, Takes, WholeTakes}
-use Rattle.mail_commands.specs.Run.{CameTo}
+use Rattle.mail_commands.specs.Run.{CameTo, IsTold}
+use Rattle.generated_mail.specs.Told.{Generates}
+use Rattle.generated_mail.proofs.Mails.{told_verdict}
 use Rattle.mail_commands.specs.private.Opening.{IsOpened}
 use Rattle.mail_commands.specs.declared.command.Command.{Command}
-use Rattle.mail_commands.specs.declared.command.Command.TheVariants.{Open, Key, Seal}
+use Rattle.mail_commands.specs.declared.command.Command.TheVariants.{Open, Key, Seal, Gen}
 use Rattle.mail_commands.specs.declared.command.SuiteName.{SuiteName}
 use Rattle.mail_commands.specs.declared.command.SetName.{SetName}
 use Rattle.kem_mail.specs.declared.error.MailError.{MailError}
@@ -22,7 +24,7 @@ use Rattle.kem_mail.specs.declared.error.MailError.TheVariants.{NoMemory, XofExh
 use Rattle.mail_commands.specs.declared.error.RunError.{RunError}
 use Rattle.mail_commands.specs.declared.error.RunError.TheVariants.{Place, Ended, InvalidKey, Mail}
 use Rattle.mail_commands.proofs.Joins.{Begins-take, Begins-whole, Reaches-begins}
-use Rattle.mail_commands.proofs.Inputs.{IsPart-take, StopsWithin-whole, Lost_then, Lost_weaker, ended_then}
+use Rattle.mail_commands.proofs.Inputs.{nil_right, IsPart-take, StopsWithin-whole, Lost_then, Lost_weaker, ended_then}
 
 -- ---- the most that is taken
 
@@ -51,14 +53,28 @@ open_reaches Is InvalidKey bytes none = absurd none
 open_reaches Is (Mail error) bytes (inl (is, reaches)) = reaches
 open_reaches Is (Mail error) bytes (inr (is, begins)) = Reaches-begins Is bytes begins
 
+-- nothing is a part of no input
+no_part : (text : List ℕ) → IsPart (λ t. t ≡ []) text → ⊥
+no_part text (more, some, none) = some (nil_right text more none)
+
+none_taken : (e : RunError) (bytes : List ℕ) → InputTakes (λ t. t ≡ []) e bytes → bytes ≡ []
+none_taken (Place place) bytes (long, fails) = absurd (no_part (take place bytes) fails.part)
+none_taken Ended bytes part = absurd (no_part bytes part)
+none_taken InvalidKey bytes none = absurd none
+none_taken (Mail error) [] (inl (is, stops)) = refl
+none_taken (Mail error) (x ∷ xs) (inl (is, stops)) = absurd (no_part (take 0 (x ∷ xs)) (stops 0 (omega arith)))
+none_taken (Mail error) bytes (inr (is, part)) = absurd (no_part bytes part)
+
 refusal_most : (command : Command) (e : RunError) (bytes : List ℕ) → RefusalTakes command e bytes → MostTakes command bytes
 refusal_most (Open suite budget) e bytes t = inl (input_stops (IsInput (Open suite budget)) e bytes t)
 refusal_most (Key set) e bytes t = input_stops (IsInput (Key set)) e bytes t
 refusal_most (Seal suite) e bytes t = open_reaches (IsInput (Seal suite)) e bytes t
+refusal_most (Gen count) e bytes t = none_taken e bytes t
 
 whole_most : (family : Family) (command : Command) (o : Outcome) (bytes : List ℕ) → WholeTakes family command o bytes → MostTakes command bytes
 whole_most family (Open suite budget) o bytes (head, mail, seed, info, verdict, whole, is, key, taken, same) = inr (head, mail, whole, (seed, info, is), taken.within, taken.behind)
 whole_most family (Key set) o bytes (seed, line, said) = StopsWithin-whole (IsLineText 128 128) bytes (seed, line)
+whole_most family (Gen count) o bytes is = is.0
 whole_most family (Seal suite) o bytes is = Reaches-begins (IsInput (Seal suite)) bytes (Begins-whole (IsInput (Seal suite)) bytes is)
 
 takes_most : (family : Family) (command : Command) (outcome : Outcome) (bytes : List ℕ) → Takes family command outcome bytes → MostTakes command bytes
@@ -159,6 +175,7 @@ refused : (command : Command) (e : RunError) (left now : Option (List ℕ)) → 
     → IfSome left (λ text. IsAnswer (outcome_status (Err e)) → Refused (λ t place. Fails command t place) (λ t. Ends command t) e text)
 refused (Open suite budget) e left now l ended = input_refused (IsInput (Open suite budget)) e left now l ended
 refused (Key set) e left now l ended = input_refused (IsInput (Key set)) e left now l ended
+refused (Gen count) e left now l ended = input_refused (IsInput (Gen count)) e left now l ended
 refused (Seal suite) e left now l ended = open_refused (IsInput (Seal suite)) e left now l ended
 
 refusal_ends : (family : Family) (command : Command) (e : RunError) (left now : Option (List ℕ)) → Lost left now (RefusalTakes command e) → (e ≡ Ended → IfSome left (λ text. now ≡ Some []))
@@ -171,6 +188,7 @@ no_invalid : (command : Command) (bytes : List ℕ) → RefusalTakes command Inv
 no_invalid (Open suite budget) bytes t = t
 no_invalid (Key set) bytes t = t
 no_invalid (Seal suite) bytes t = t
+no_invalid (Gen count) bytes t = t
 
 refusal_takes : (family : Family) (command : Command) (e : RunError) (bytes : List ℕ) → RefusalTakes command e bytes → Takes family command (Err e) bytes
 refusal_takes family command (Place place) bytes t = t
@@ -212,6 +230,7 @@ open_at_end suite e (Some text) now l ended (inr (inr (inr (items, is)))) = absu
 refusal_at_end : (command : Command) (e : RunError) (left now : Option (List ℕ)) → Lost left now (RefusalTakes command e) → (e ≡ Ended → IfSome left (λ text. now ≡ Some [])) → IsAtEnd command (Err e) → IfSome left (λ text. now ≡ Some [])
 refusal_at_end (Open suite budget) e left now l ended at_end = input_at_end (IsInput (Open suite budget)) e left now l ended at_end
 refusal_at_end (Key set) e left now l ended at_end = input_at_end (IsInput (Key set)) e left now l ended at_end
+refusal_at_end (Gen count) e left now l ended at_end = absurd at_end
 refusal_at_end (Seal suite) e left now l ended at_end = open_at_end suite e left now l ended at_end
 
 pub came_refused : (family : Family) (command : Command) (e : RunError) (left now : Option (List ℕ)) (faults faults_now : ℕ) → Lost left now (RefusalTakes command e)
@@ -307,3 +326,50 @@ module _ (family : Family) (set : SetName) (left now : Option (List ℕ)) (fault
     read_fault = λ is. absurd (key_not ReadFault (λ e. cc e) (λ e. cc e) (verdict_back v ReadFault is));
     no_fault = λ not. calm;
   }
+
+-- ---- nothing is read
+
+-- where a source lost nothing, it lost this
+lost_nothing : (left : Option (List ℕ)) (P : List ℕ → Type 0) → P [] → Lost left left P
+lost_nothing None P p = tt
+lost_nothing (Some text) P p = ([], text, refl, refl, p)
+
+module _ (family : Family) (count : ℕ) (v : Verdict) (comes : (v ≡ Err NoMemory) ⊎ Generates family count v) where
+  gen_no_fault : v ≢ Err ReadFault
+  gen_no_fault is = elim comes [
+    | inl memory ↦ (let both = sym is ∙ memory in cc both)
+    | inr told ↦ (told_verdict family count v told).1 is
+  ]
+
+  gen_ends : (left : Option (List ℕ)) → IfSome left (λ text. IsAnswer (outcome_status (of_verdict v)) → EndsWith family (Gen count) text (of_verdict v))
+  gen_ends None = tt
+  gen_ends (Some text) = λ answer. elim comes [
+    | inl memory ↦ absurd ((answer_verdict v answer).0 memory)
+    | inr told ↦ ends_verdict family (Gen count) text v (v, told, refl)
+  ]
+
+  pub came_gen : (left : Option (List ℕ)) (faults : ℕ) → CameTo family (Gen count) left left faults faults (of_verdict v)
+  came_gen left faults = record {
+    ends_with = gen_ends left;
+    took = lost_nothing left (Takes family (Gen count) (of_verdict v)) (takes_verdict family (Gen count) v [] (refl, (λ is. gen_no_fault (verdict_back v ReadFault is))));
+    at_end = λ never. absurd never;
+    read_fault = λ is. absurd (gen_no_fault (verdict_back v ReadFault is));
+    no_fault = λ not. refl;
+  }
+
+  -- and so its run never ends with the status of such a fault
+  pub gen_status : {W : Type 0} (got : W → Option (List ℕ)) (sink_faults : W → ℕ) (plan : W → List ℕ) (before now : W) (result : ℕ) (output : List ℕ)
+      → IsTold got sink_faults plan before now result (outcome_status (of_verdict v)) output → result ≢ 4
+  gen_status got sink_faults plan before now result output told four = elim told [
+    | inl all ↦ elim comes [
+      | inl memory ↦ (let status = ap (λ (w : Verdict). outcome_status (of_verdict w)) memory in let both = sym four ∙ (all.0 ∙ status) in absurd (cc both))
+      | inr made ↦ not_four v (told_verdict family count v made) (sym all.0 ∙ four)
+    ]
+    | inr part ↦ (let both = sym four ∙ part.0 in absurd (cc both))
+  ]
+    where
+      not_four : (w : Verdict) → IsVerdict w → outcome_status (of_verdict w) ≡ 4 → ⊥
+      not_four (Ok items) is e = cc e
+      not_four (Err NoMemory) is e = is.0 refl
+      not_four (Err ReadFault) is e = is.1 refl
+      not_four (Err error) is e = cc e

@@ -1,13 +1,7 @@
 -- A run of `seal`: what it came to, and told.
-use Rattle.std.proofs.Common.{◌≡◌, ◌≢◌, ◌⊎◌, ℕ, ◌≤◌, List, [], ◌∷◌, ◌++◌, length, Option, Some, None, Result, Ok, Err, refl, sym, ap, subst, ◌∙◌, inl, inr, arith}
+use Rattle.std.proofs.Common.{◌≡◌, ◌≢◌, ◌⊎◌, ℕ, List, [], ◌∷◌, ◌++◌, Option, Some, None, Result, Ok, Err, refl, sym, ap, subst, ◌∙◌, inl, inr, arith}
 use Rattle.std.specs.Prelude.{IfSome}
-use Rattle.std.specs.Prelude.{All}
-use Rattle.std.specs.List.{AllByRecursion}
-use Rattle.std.proofs.lemmas.List.Elements.{recursion_from_All}
 use Rattle.rand_core.specs.Stream.{Stream, fill_bytes}
-use Rattle.gcm_core.specs.Aes.{aes}
-use Rattle.gcm_core.specs.Gcm.{seal_of}
-use Rattle.gcm_core.proofs.Sealing.{fits_limits-Decides, gcm_ae-within}
 use Rattle.std.proofs.lemmas.List.{append-nil}
 use Rattle.kem_hash.specs.Family.{Family}
 use Rattle.ml_kem.specs.Keys.{IsEncapsulationKey, rho_part}
@@ -17,27 +11,25 @@ use Rattle.hpke.specs.Schedule.{KdfAlgorithm, AeadAlgorithm}
 use Rattle.age_format.specs.Outside.{Gains, GainsPart, Rose, Wrote, WrotePart}
 use Rattle.kem_mail.specs.Sealing.{SealMeaning, Sealer, first_unsealed, lattice_sealer, mail_stanzas}
 use Rattle.kem_mail.specs.Sent.{RanOutAt, SealsMail, Untouched}
-use Rattle.kem_mail.proofs.SentMails.{first_unsealed-each}
 use Rattle.kem_mail.specs.Taken.{Lost}
+use Rattle.generated_mail.specs.Made.{source_stream}
 use Rattle.kem_mail.specs.declared.error.MailError.TheVariants.{NoMemory, ReadFault, XofExhausted}
 use Rattle.kem_mail.specs.declared.error.SealMailError.{SealMailError}
 use Rattle.kem_mail.specs.declared.error.SealMailError.TheVariants.{NoMemory as SealNoMemory, XofExhausted as SealExhausted, SealError, WriteFault}
 use Rattle.mail_commands.specs.Command.{parameters, kdf_algorithm, aead_algorithm, aead_seal}
-use Rattle.mail_commands.specs.Due.{EndsWith, IsAnswer, IsInput, Outcome, Seals, mail_outcome, outcome_output, outcome_status, source_stream}
+use Rattle.mail_commands.specs.Due.{EndsWith, IsAnswer, IsInput, Outcome, Seals, mail_outcome, outcome_output, outcome_status}
 use Rattle.mail_commands.specs.Input.{IsSealInput}
 use Rattle.mail_commands.specs.Lines.{error_line}
-use Rattle.mail_commands.specs.Run.{CameTo, IsTold, Ran, Tells}
+use Rattle.mail_commands.specs.Run.{CameTo, IsTold, Ran}
 use Rattle.mail_commands.specs.Taken.{Takes}
 use Rattle.mail_commands.specs.private.Sealing.{FrontRan, HasMatrix, IsSealTold, MailRan, SealRan, sealed_text}
-use Rattle.mail_commands.specs.private.Telling.{lines_output}
-use Rattle.mail_commands.specs.declared.command.Command.{Command}
-use Rattle.mail_commands.specs.declared.command.Command.TheVariants.{Open, Key, Seal}
+use Rattle.mail_commands.specs.declared.command.Command.TheVariants.{Seal}
 use Rattle.mail_commands.specs.declared.command.SuiteName.{SuiteName}
 use Rattle.mail_commands.specs.declared.error.RunError.TheVariants.{InvalidKey, Mail}
 use Rattle.mail_commands.specs.declared.sealing.SealFault.{SealFault}
 use Rattle.mail_commands.specs.declared.sealing.SealFault.TheVariants.{InvalidKey as FaultInvalidKey, Mail as FaultMail}
 use Rattle.mail_commands.proofs.Dues.{seals_end}
-use Rattle.mail_commands.proofs.Inputs.{IsAlone, Lost_weaker}
+use Rattle.mail_commands.proofs.Inputs.{Lost_weaker}
 use Rattle.mail_commands.proofs.Runs.{all_taken}
 use Rattle.mail_commands.proofs.Writes.{wrote_then}
 
@@ -109,23 +101,6 @@ module _ (set : Parameters) (family : Family) (kdf : KdfAlgorithm) (aead : AeadA
     of_error X SealNoMemory is (inr (has, front)) = inr (is, has, front)
     of_error X WriteFault is ran = (is, ran)
     of_error X (SealError number) is ran = (is, ran)
-
--- ---- each message has a sealed text
-
-seals_short : (text key nonce : List ℕ) → length text ≤ 32768 → seal_of key nonce [] text ≢ None
-seals_short text key nonce short e =
-    let fits = (fits_limits-Decides [] text).1 (omega (arith, short), omega arith) in
-    let there = gcm_ae-within (aes key) nonce [] text fits in
-    (let never = sym there ∙ e in cc never)
-
-pub all_sealed : (set : Parameters) (family : Family) (kdf : KdfAlgorithm) (aead : AeadAlgorithm) (key info draw : List ℕ) (messages : List (List ℕ)) → All (λ m. length m ≤ 32768) messages
-    → first_unsealed (lattice_sealer set family kdf aead seal_of key info) messages draw ≡ None
-all_sealed set family kdf aead key info draw messages short =
-    first_unsealed-each (lattice_sealer set family kdf aead seal_of key info) messages draw (each messages (recursion_from_All (λ m. length m ≤ 32768) messages short))
-  where
-    each : (ms : List (List ℕ)) → AllByRecursion (λ m. length m ≤ 32768) ms → AllByRecursion (λ m. (k n : List ℕ) → seal_of k n [] m ≢ None) ms
-    each [] h = tt
-    each (m ∷ ms) h = ((λ k n. seals_short m k n h.0), each ms h.1)
 
 -- ---- what was taken
 
@@ -266,28 +241,3 @@ pub refused_ran : (family : Family) (suite : SuiteName) (left now : Option (List
     {W : Type 0} (got : W → Option (List ℕ)) (sink_faults : W → ℕ) (plan : W → List ℕ) (before after : W) (result : ℕ) → IsTold got sink_faults plan before after result (outcome_status o) (outcome_output (Seal suite) o)
     → Ran family (Seal suite) left now faults faults_now got sink_faults plan before after result
 refused_ran family suite left now faults faults_now o came got sink_faults plan before after result told = record { outcome = o; came = came; told = inl told }
-
--- ---- a run whose output is written when all is made
-
-lines_are : (command : Command) → IsAlone command → (o : Outcome) → lines_output command o ≡ outcome_output command o
-lines_are (Open suite budget) alone (Ok items) = refl
-lines_are (Open suite budget) alone (Err e) = refl
-lines_are (Key set) alone (Ok items) = refl
-lines_are (Key set) alone (Err e) = refl
-lines_are (Seal suite) alone o = absurd alone
-
-tells_lines : {W : Type 0} (command : Command) → IsAlone command → (got : W → Option (List ℕ)) (faults : W → ℕ) (plan : W → List ℕ) (before now : W) (result status : ℕ) (output : List ℕ)
-    → IsTold got faults plan before now result status output → Tells command got faults plan before now result status output
-tells_lines (Open suite budget) alone got faults plan before now result status output told = told
-tells_lines (Key set) alone got faults plan before now result status output told = told
-tells_lines (Seal suite) alone got faults plan before now result status output told = absurd alone
-
-pub told_ran : (family : Family) (command : Command) → IsAlone command → (left now : Option (List ℕ)) (faults faults_now : ℕ) (o : Outcome) → CameTo family command left now faults faults_now o
-    → {W : Type 0} (got : W → Option (List ℕ)) (sink_faults : W → ℕ) (plan : W → List ℕ) (before after : W) (result : ℕ) → IsTold got sink_faults plan before after result (outcome_status o) (lines_output command o)
-    → Ran family command left now faults faults_now got sink_faults plan before after result
-told_ran family command alone left now faults faults_now o came got sink_faults plan before after result told = record {
-  outcome = o;
-  came = came;
-  told = tells_lines command alone got sink_faults plan before after result (outcome_status o) (outcome_output command o)
-      (subst (IsTold got sink_faults plan before after result (outcome_status o)) (lines_are command alone o) told);
-}

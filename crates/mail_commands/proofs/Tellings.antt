@@ -10,7 +10,7 @@ use Rattle.kem_mail.specs.Taken.{Lost}
 use Rattle.mail_commands.specs.Taken.{Takes}
 use Rattle.mail_commands.specs.Run.{CameTo, IsHalted, IsTold, Tells}
 use Rattle.mail_commands.specs.declared.command.Command.{Command}
-use Rattle.mail_commands.specs.declared.command.Command.TheVariants.{Open, Key, Seal}
+use Rattle.mail_commands.specs.declared.command.Command.TheVariants.{Open, Key, Seal, Gen}
 use Rattle.mail_commands.specs.declared.command.SuiteName.{SuiteName}
 use Rattle.kem_mail.specs.declared.error.MailError.TheVariants.{NoMemory, ReadFault}
 use Rattle.mail_commands.specs.declared.error.RunError.{RunError}
@@ -83,6 +83,7 @@ pub tells_told : {W : Type 0} (command : Command) (got : W → Option (List ℕ)
     → Tells command got faults plan before now result status output → Told got faults plan before now result status output
 tells_told (Open suite budget) got faults plan before now result status output told = inl told
 tells_told (Key set) got faults plan before now result status output told = inl told
+tells_told (Gen count) got faults plan before now result status output told = inl told
 tells_told (Seal suite) got faults plan before now result status output told = told
 
 module _ {W : Type 0} (got : W → Option (List ℕ)) (faults : W → ℕ) (plan : W → List ℕ) (before now : W) (result status : ℕ) (output : List ℕ) (told : Told got faults plan before now result status output) where
@@ -262,4 +263,5 @@ pub memory : {W : Type 0} (got : W → Option (List ℕ)) (faults : W → ℕ) (
     → Tells command got faults plan before now result (outcome_status outcome) (outcome_output command outcome) → result ≡ 6 → ((suite : SuiteName) → Spells words (Seal suite) → ⊥) → Gains (got before) (got now) []
 memory got faults plan before now result words (Open suite budget) outcome spelled tells six none = six_told got faults plan before now result (Open suite budget) outcome tells six
 memory got faults plan before now result words (Key set) outcome spelled tells six none = six_told got faults plan before now result (Key set) outcome tells six
+memory got faults plan before now result words (Gen count) outcome spelled tells six none = six_told got faults plan before now result (Gen count) outcome tells six
 memory got faults plan before now result words (Seal suite) outcome spelled tells six none = absurd (none suite spelled)

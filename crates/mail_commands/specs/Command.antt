@@ -8,7 +8,7 @@ use Rattle.hpke.specs.Schedule.{KdfAlgorithm, AeadAlgorithm}
 use Rattle.kem_mail.specs.Mail.{OpenMeaning}
 use Rattle.kem_mail.specs.Sealing.{SealMeaning}
 use Rattle.mail_commands.specs.declared.command.Command.{Command}
-use Rattle.mail_commands.specs.declared.command.Command.TheVariants.{Open, Key, Seal}
+use Rattle.mail_commands.specs.declared.command.Command.TheVariants.{Open, Key, Seal, Gen}
 use Rattle.mail_commands.specs.declared.command.SetName.{SetName}
 use Rattle.mail_commands.specs.declared.command.SetName.TheVariants.{Set512, Set768, Set1024}
 use Rattle.mail_commands.specs.declared.command.KdfName.{KdfName}
@@ -58,22 +58,28 @@ abbrev pub aead_seal : AeadName → SealMeaning
 aead_seal Aes128 = seal_of
 aead_seal Aes256 = seal_of
 
--- the words of a command; a budget is a decimal number without a leading zero
+-- the words of a command; a budget and a number of messages are decimal numbers without a leading zero
 abbrev pub words_of : Command → List (List ℕ)
 words_of (Open suite budget) =
     codes "open" ∷ set_word suite.set ∷ kdf_word suite.kdf ∷ aead_word suite.aead ∷ decimal budget ∷ []
 words_of (Key set) = codes "key" ∷ set_word set ∷ []
 words_of (Seal suite) = codes "seal" ∷ set_word suite.set ∷ kdf_word suite.kdf ∷ aead_word suite.aead ∷ []
+words_of (Gen count) = codes "gen" ∷ decimal count ∷ []
 
 -- the most bytes of a mail that a command may ask to be read
 abbrev pub greatest_budget : ℕ
 greatest_budget = 16777216
 
--- a command of the program: a budget is from 1 to 16777216
+-- the most messages that a command may ask to be made
+abbrev pub greatest_count : ℕ
+greatest_count = 2000
+
+-- a command of the program: a budget is from 1 to 16777216, and a number of messages from 0 to 2000
 abbrev pub IsCommand : Command → Type 0
 IsCommand (Open suite budget) = (1 ≤ budget) × (budget ≤ greatest_budget)
 IsCommand (Key set) = Unit {0}
 IsCommand (Seal suite) = Unit {0}
+IsCommand (Gen count) = count ≤ greatest_count
 
 -- the word of a command's input, in the lines of its faults
 abbrev pub input_word : Command → List ℕ

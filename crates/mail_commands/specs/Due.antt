@@ -7,28 +7,28 @@ use Rattle.ml_kem.specs.Keys.{IsEncapsulationKey, Key as KeyRecord, key_of, rho_
 use Rattle.ml_kem.specs.Matrix.{matrix}
 use Rattle.ml_kem.specs.Parameters.{Parameters}
 use Rattle.hpke.specs.Schedule.{KdfAlgorithm, AeadAlgorithm}
-use Rattle.rand_core.specs.Steps.{stream_of, steps_u32}
-use Rattle.rand_core.specs.Stream.{Stream}
-use Rattle.rand_chacha.specs.ChaCha.{next_word, of_seed}
 use Rattle.mail_commands.specs.Command.{Spells, parameters, kdf_algorithm, aead_algorithm, aead_open, aead_seal, input_word}
 use Rattle.mail_commands.specs.Input.{IsHead, IsHeadText, IsLineText, IsSeedLine, IsSealInput, IsSealText, IsPart, FailsAt, EndsInside, StopsAt, seed_digits}
 use Rattle.mail_commands.specs.Lines.{lines, error_line, no_command_line}
 use Rattle.kem_mail.specs.Mail.{Verdict, OpensByKey}
 use Rattle.kem_mail.specs.Sealing.{SealMeaning, lattice_sealer}
 use Rattle.kem_mail.specs.Sent.{mail_text}
+use Rattle.generated_mail.specs.Made.{source_stream}
+use Rattle.generated_mail.specs.Told.{Generates}
 use Rattle.mail_commands.specs.declared.command.Command.{Command}
 use Rattle.mail_commands.specs.declared.command.SuiteName.{SuiteName}
-use Rattle.mail_commands.specs.declared.command.Command.TheVariants.{Open, Key, Seal}
+use Rattle.mail_commands.specs.declared.command.Command.TheVariants.{Open, Key, Seal, Gen}
 use Rattle.kem_mail.specs.declared.error.MailError.TheVariants.{NoMemory, ReadFault, XofExhausted}
 use Rattle.mail_commands.specs.declared.error.RunError.{RunError}
 use Rattle.mail_commands.specs.declared.error.RunError.TheVariants.{Place, Ended, InvalidKey, Mail}
 
 -- the whole inputs of a command: the head of a mail for `open`, the line of a seed for `key`, and for `seal`
--- all that is sealed
+-- all that is sealed; `gen` reads nothing
 abbrev pub IsInput : Command → List ℕ → Type 0
 IsInput (Open suite budget) text = IsHeadText text
 IsInput (Key set) text = IsLineText seed_digits seed_digits text
 IsInput (Seal suite) text = IsSealText (parameters suite.set).ek_size text
+IsInput (Gen count) text = text ≡ []
 
 -- a byte can't stand at this place of a command's input; only of `seal` may one input begin another
 abbrev pub Fails : Command → List ℕ → ℕ → Type 0
@@ -54,10 +54,6 @@ abbrev pub key_verdict : Option KeyRecord → Verdict
 key_verdict None = Err XofExhausted
 key_verdict (Some key) = Ok (key.ek ∷ [])
 
--- what the random source of a seed of 32 bytes gives: ChaCha of 20 rounds
-unfoldable pub source_stream : List ℕ → Stream
-source_stream seed = stream_of (steps_u32 (next_word 10)) (of_seed seed)
-
 -- the text of a mail, where the matrix of its key is there
 abbrev pub mail_outcome : {A : Type 0} → Option A → List ℕ → Outcome
 mail_outcome None text = Err (Mail XofExhausted)
@@ -78,6 +74,7 @@ ComesTo family (Key set) text outcome = (line seed rest : List ℕ) × (text ≡
     × (outcome ≡ of_verdict (key_verdict (key_of (parameters set) family seed)))
 ComesTo family (Seal suite) text outcome = (key info source : List ℕ) × (messages : List (List ℕ)) × IsSealInput (parameters suite.set).ek_size text key info source messages
     × Seals (parameters suite.set) family (kdf_algorithm suite.kdf) (aead_algorithm suite.aead) (aead_seal suite.aead) key info source messages outcome
+ComesTo family (Gen count) text outcome = (told : Verdict) × Generates family count told × (outcome ≡ of_verdict told)
 
 -- a text begins with a head, and behind it a mail of this suite that opens to these messages
 abbrev pub HoldsMail : Family → SuiteName → ℕ → List ℕ → List (List ℕ) → Type 0
@@ -99,9 +96,11 @@ outcome_status (Err (Mail NoMemory)) = 6
 outcome_status (Err (Mail ReadFault)) = 4
 outcome_status (Err error) = 3
 
--- what a command writes of its items: each in digits as a line; the text of a mail as it is
+-- what a command writes of its items: each in digits as a line; the text of a mail, and the lines of `gen`, as
+-- they are
 abbrev pub items_output : Command → List (List ℕ) → List ℕ
 items_output (Seal suite) items = concat items
+items_output (Gen count) items = concat items
 items_output command items = lines items
 
 -- the output of an outcome

@@ -2,12 +2,14 @@
 use Rattle.std.specs.Prelude.{◌≡◌, ◌≢◌, ℕ, List, [], ◌++◌, Option, Some, IfSome, Err, ◌⊎◌}
 use Rattle.kem_hash.specs.Family.{Family}
 use Rattle.age_format.specs.Outside.{Rose, Wrote, WrotePart}
-use Rattle.mail_commands.specs.Due.{EndsWith, IsAnswer, Outcome, outcome_output, outcome_status}
+use Rattle.mail_commands.specs.Due.{EndsWith, IsAnswer, Outcome, of_verdict, outcome_output, outcome_status}
+use Rattle.kem_mail.specs.Mail.{Verdict}
 use Rattle.kem_mail.specs.Taken.{Lost}
+use Rattle.generated_mail.specs.Told.{Generates}
 use Rattle.mail_commands.specs.Taken.{IsAtEnd, Takes}
 use Rattle.mail_commands.specs.declared.command.Command.{Command}
-use Rattle.mail_commands.specs.declared.command.Command.TheVariants.{Seal}
-use Rattle.kem_mail.specs.declared.error.MailError.TheVariants.{ReadFault}
+use Rattle.mail_commands.specs.declared.command.Command.TheVariants.{Seal, Gen}
+use Rattle.kem_mail.specs.declared.error.MailError.TheVariants.{NoMemory, ReadFault}
 use Rattle.mail_commands.specs.declared.error.RunError.TheVariants.{Mail}
 
 -- A run answered this status and told this output; or its sink failed at an output that is owed, which it
@@ -44,3 +46,10 @@ pub record Ran (family : Family) (command : Command) (left left_now : Option (Li
   pub outcome : Outcome
   pub came : CameTo family command left left_now faults faults_now outcome
   pub told : Tells command got sink_faults plan before now result (outcome_status outcome) (outcome_output command outcome)
+
+-- A run of `gen`: what is told for its number of messages, whatever the source holds, or memory ran out; and it told
+-- that.
+pub record RanGen (family : Family) (count : ℕ) {W : Type 0} (got : W → Option (List ℕ)) (sink_faults : W → ℕ) (plan : W → List ℕ) (before now : W) (result : ℕ) : Type 0 where
+  pub verdict : Verdict
+  pub comes : (verdict ≡ Err NoMemory) ⊎ Generates family count verdict
+  pub told : IsTold got sink_faults plan before now result (outcome_status (of_verdict verdict)) (outcome_output (Gen count) (of_verdict verdict))

@@ -1,6 +1,6 @@
 //! The commands and the words that spell them.
 
-ghost use Rattle.std.specs.Prelude.{◌≡◌, ◌↔◌, ◌≤◌, ℕ, List, [], ◌∷◌, map, codes, decimal, IfNone, IfSome, IsTrue};
+ghost use Rattle.std.specs.Prelude.{◌≡◌, ◌↔◌, ◌≤◌, ◌<◌, ◌^◌, ℕ, List, [], ◌∷◌, map, codes, decimal, IfNone, IfSome, IsTrue};
 ghost use Rattle.std.specs.String.{string_bytes};
 ghost use Rattle.mail_commands.specs.Command.{Spells, set_word, kdf_word, aead_word, greatest_budget};
 
@@ -8,6 +8,9 @@ use itoa::Buffer;
 
 // The most bytes of a mail that a command may ask to be read.
 const GREATEST_BUDGET: u64 = 16_777_216;
+
+// The most messages that a command may ask to be made.
+const GREATEST_COUNT: u64 = 2000;
 
 /// A parameter set of the lattice KEM.
 #[derive(Clone, Copy, Debug, PartialEq, Eq)]
@@ -49,6 +52,8 @@ pub enum Command {
     Key(SetName),
     /// Seals a mail of a suite.
     Seal(SuiteName),
+    /// Makes a mail of so many messages, and opens it.
+    Gen(u64),
 }
 
 // The parameter set of a word.
@@ -89,24 +94,34 @@ fn aead_named(word: &str) -> Option<AeadName>
     }
 }
 
-// The budget that a word spells: a decimal number without a leading zero, from 1 on.
-fn budget_of(word: &str) -> Option<u64>
-    ensures found { IfSome result (λ n. (word.now ≡ decimal n) × (1 ≤ n) × (n ≤ greatest_budget)) }
-    ensures none { IfNone result ((n : ℕ) → word.now ≡ decimal n → 1 ≤ n → n ≤ greatest_budget → ⊥) }
+// The number in a range that a word spells: in decimal, without a leading zero.
+fn number_between(word: &str, least: u64, greatest: u64) -> Option<u64>
+    requires { greatest < 2 ^ 32 }
+    ensures found { IfSome result (λ n. (word.now ≡ decimal n) × (least ≤ n) × (n ≤ greatest)) }
+    ensures none { IfNone result ((n : ℕ) → word.now ≡ decimal n → least ≤ n → n ≤ greatest → ⊥) }
 {
-    let Ok(budget) = word.parse::<u64>() else {
+    let Ok(number) = word.parse::<u64>() else {
         return None;
     };
-    if budget < 1 || budget > GREATEST_BUDGET {
+    if number < least || number > greatest {
         return None;
     }
     // A sign and leading zeros are parsed too, but not written again.
     let mut buffer = Buffer::new();
-    if buffer.format(budget) == word {
-        Some(budget)
+    if buffer.format(number) == word {
+        Some(number)
     } else {
         None
     }
+}
+
+// The command that makes a mail, with this word behind its own.
+fn gen_command(count: &str) -> Option<Command>
+    ensures found { IfSome result (λ command. Spells (codes "gen" ∷ count.now ∷ []) command) }
+    ensures none { IfNone result ((command : Command) → Spells (codes "gen" ∷ count.now ∷ []) command → ⊥) }
+{
+    let count = number_between(count, 0, GREATEST_COUNT)?;
+    Some(Command::Gen(count))
 }
 
 // The command that makes a key, with this word behind its own.
@@ -145,7 +160,7 @@ fn open_command(set: &str, kdf: &str, aead: &str, budget: &str) -> Option<Comman
         → Spells (codes "open" ∷ set.now ∷ kdf.now ∷ aead.now ∷ budget.now ∷ []) command → ⊥) }
 {
     let suite = suite_named(set, kdf, aead)?;
-    let budget = budget_of(budget)?;
+    let budget = number_between(budget, 1, GREATEST_BUDGET)?;
     Some(Command::Open(suite, budget))
 }
 
@@ -156,6 +171,7 @@ pub fn command_of(words: &[String]) -> Option<Command>
 {
     match words {
         [name, set] if name.as_str() == "key" => key_command(set.as_str()),
+        [name, count] if name.as_str() == "gen" => gen_command(count.as_str()),
         [name, set, kdf, aead] if name.as_str() == "seal" => {
             seal_command(set.as_str(), kdf.as_str(), aead.as_str())
         }

@@ -5,7 +5,7 @@ ghost use Rattle.std.specs.Prelude.{◌≡◌, ◌≢◌, ◌⊎◌, ℕ, List, 
 ghost use Rattle.std.specs.String.{string_bytes};
 ghost use Rattle.kem_hash.specs.Family.{Family};
 ghost use Rattle.age_format.specs.Outside.{Rose, Gains, GainsPart};
-ghost use Rattle.mail_commands.specs.Command.{Spells, words_of, greatest_budget};
+ghost use Rattle.mail_commands.specs.Command.{Spells, words_of, greatest_budget, greatest_count};
 ghost use Rattle.mail_commands.specs.Due.{Due, HoldsMail, IsAnswer};
 ghost use Rattle.mail_commands.specs.Input.{IsHeadText, IsSealInput, seed_digits, most_info_digits, source_digits, most_message_digits, most_messages};
 ghost use Rattle.mail_commands.specs.Lines.{lines, error_line, no_command_line};
@@ -70,6 +70,8 @@ pub fn worked_words()
     ensures key { words_of (Command.Key SetName.Set768) ≡ codes "key" ∷ codes "768" ∷ [] }
     ensures seal { let suite : SuiteName = record { set = SetName.Set512; kdf = KdfName.Sha512; aead = AeadName.Aes128 } in
         words_of (Command.Seal suite) ≡ codes "seal" ∷ codes "512" ∷ codes "sha512" ∷ codes "aes128" ∷ [] }
+    ensures smallest_gen { words_of (Command.Gen 0) ≡ codes "gen" ∷ codes "0" ∷ [] }
+    ensures greatest_gen { words_of (Command.Gen greatest_count) ≡ codes "gen" ∷ codes "2000" ∷ [] }
     ensures budget { greatest_budget ≡ 16777216 }
     ensures seed { seed_digits ≡ 128 }
     ensures info { most_info_digits ≡ 8192 }

@@ -91,7 +91,7 @@ fn input_name(command: Command) -> &'static [u8]
     ensures { result.now ≡ input_word command }
 {
     match command {
-        Command::Open(..) | Command::Key(_) => b"head",
+        Command::Open(..) | Command::Key(_) | Command::Gen(_) => b"head",
         Command::Seal(_) => b"input",
     }
 }
@@ -101,7 +101,7 @@ fn ended_name(command: Command) -> &'static [u8]
     ensures { result.now ≡ input_word command ++ codes " ended" }
 {
     match command {
-        Command::Open(..) | Command::Key(_) => b"head ended",
+        Command::Open(..) | Command::Key(_) | Command::Gen(_) => b"head ended",
         Command::Seal(_) => b"input ended",
     }
 }

@@ -4,13 +4,14 @@ ghost use Rattle.std.specs.Prelude.{◌≡◌, ◌≢◌, ◌≤◌, ◌⊎◌, 
 ghost use Rattle.std.specs.String.{string_bytes};
 ghost use Rattle.age_format.specs.Outside.{Rose, Gains, GainsPart};
 ghost use Rattle.ml_kem.specs.Keys.{key_of};
-ghost use Rattle.mail_commands.specs.Command.{Spells, parameters, kdf_algorithm, aead_algorithm, aead_open, input_word};
+ghost use Rattle.mail_commands.specs.Command.{IsCommand, Spells, greatest_count, parameters, kdf_algorithm, aead_algorithm, aead_open, input_word};
 ghost use Rattle.mail_commands.specs.Due.{Due, IsAnswer, key_verdict, outcome_status};
 ghost use Rattle.mail_commands.specs.Lines.{lines, error_line, no_command_line};
 ghost use Rattle.kem_mail.specs.Mail.{Verdict};
 ghost use Rattle.kem_mail.specs.Taken.{Lost};
+ghost use Rattle.generated_mail.specs.Told.{summary_lines};
 ghost use Rattle.mail_commands.specs.Taken.{MostTakes, Takes};
-ghost use Rattle.mail_commands.specs.Run.{CameTo, IsTold, Ran};
+ghost use Rattle.mail_commands.specs.Run.{CameTo, IsTold, Ran, RanGen};
 ghost use Rattle.kem_mail.specs.private.Answers.{Judges};
 ghost use Rattle.mail_commands.specs.private.Opening.{IsOpened};
 ghost use Rattle.mail_commands.specs.private.Sealing.{IsSealTold};
@@ -24,6 +25,7 @@ use crate::list::ItemList;
 use crate::seal_input::next_seal_input;
 use crate::sealing::{SealFault, key_size, seal_suite};
 use age_format::outside::{Failed, Sink, Source};
+use generated_mail::{Summary, summary_of, write_summary};
 use hpke::{AesGcm128, AesGcm256, HkdfSha256, HkdfSha384, HkdfSha512, Kdf};
 use kem_hash::KemHash;
 use kem_mail::{MailError, MessageList, SealMailError, open_mail};
@@ -228,6 +230,28 @@ fn run_seal<H: KemHash, S: Source, W: Sink>(
     }
 }
 
+// Writes what `gen` summed up, and answers the status of the run.
+fn tell_summary<W: Sink>(out: &mut W, summary: &Summary) -> u8
+    ensures { IsTold W.got W.faults W.plan out.old out.new result 0
+        (summary_lines summary.now.messages summary.now.bytes summary.now.mail summary.now.digest) }
+{
+    match write_summary(out, summary) {
+        Ok(()) => DONE,
+        Err(Failed) => WRITE_FAULT,
+    }
+}
+
+// Runs `gen`, and answers the status.
+fn run_gen<H: KemHash, W: Sink>(alloc: Global, count: u64, out: &mut W) -> u8
+    requires { count ≤ greatest_count }
+    ensures { RanGen H.family count W.got W.faults W.plan out.old out.new result }
+{
+    match summary_of::<H>(alloc, count) {
+        Ok(summary) => tell_summary(out, &summary),
+        Err(error) => refuse(out, Command::Gen(count), RunError::Mail(error)),
+    }
+}
+
 // Runs a command, and answers the status.
 fn run_command<H: KemHash, S: Source, W: Sink>(
     alloc: Global,
@@ -235,8 +259,11 @@ fn run_command<H: KemHash, S: Source, W: Sink>(
     src: &mut S,
     out: &mut W,
 ) -> u8
+    requires { IsCommand command }
     ensures ran { Ran H.family command (S.left src.old) (S.left src.new) (S.faults src.old) (S.faults src.new)
         W.got W.faults W.plan out.old out.new result }
+    ensures unread { (count : ℕ) → command ≡ Command.Gen count → src.new ≡ src.old }
+    ensures told { (count : ℕ) → command ≡ Command.Gen count → RanGen H.family count W.got W.faults W.plan out.old out.new result }
     ensures faults { S.faults src.old ≤ S.faults src.new }
 {
     match command {
@@ -249,6 +276,7 @@ fn run_command<H: KemHash, S: Source, W: Sink>(
             tell(out, command, outcome)
         }
         Command::Seal(suite) => run_seal::<H, S, W>(alloc, suite, src, out),
+        Command::Gen(count) => run_gen::<H, W>(alloc, count, out),
     }
 }
 
@@ -273,6 +301,9 @@ fn tell_no_command<W: Sink>(out: &mut W) -> u8
 /// - `seal SET KDF AEAD`. The source is, to its end, the digits of an encapsulation key, an info as in a head, 64
 ///   digits, the seed of `ChaCha20Rng`, and at most 4096 messages of at most 65536 digits each, every one with a
 ///   line feed. The mail is written that the random source draws.
+/// - `gen N`, where N is a decimal number from 0 to 2000. Nothing is read. A mail of N messages is made, sealed and
+///   opened again, and four lines are written: `messages`, `bytes` and `mail` with how many messages were opened,
+///   the sum of their lengths, and the length of the mail's text, and `digest` with the text's hash in digits.
 /// - `key SET`. The source begins with 128 hexadecimal digits, the seed, and a line feed. The encapsulation
 ///   key of the seed is written in lower-case digits, with a line feed.
 ///
@@ -317,6 +348,11 @@ pub fn mail_main<H: KemHash, S: Source, W: Sink>(
     ensures no_command { ((command : Command) → Spells (map string_bytes words.now) command → ⊥) → (result ≡ 2) ⊎ (result ≡ 5) }
     ensures command_line { result ≡ 2 → Gains (W.got out.old) (W.got out.new) no_command_line }
     ensures unread { ((command : Command) → Spells (map string_bytes words.now) command → ⊥) → src.new ≡ src.old }
+
+    // `gen` reads nothing, and so what it tells, or a front of it, doesn't hang on what the source tells.
+    ensures unread_by_gen { (count : ℕ) → Spells (map string_bytes words.now) (Command.Gen count) → (src.new ≡ src.old) × (result ≢ 4) }
+    ensures told_by_gen { (count : ℕ) → Spells (map string_bytes words.now) (Command.Gen count)
+        → RanGen H.family count W.got W.faults W.plan out.old out.new result }
 
     // What is due comes, where neither source nor sink fails, unless memory runs out.
     ensures complete { IfSome (S.left src.old) (λ text. (status : ℕ) (output : List ℕ)

@@ -8,10 +8,10 @@ use Rattle.hpke.specs.Schedule.{KdfAlgorithm, AeadAlgorithm}
 use Rattle.age_format.specs.Outside.{Wrote, WrotePart}
 use Rattle.kem_mail.specs.Sealing.{SealMeaning, lattice_sealer}
 use Rattle.kem_mail.specs.Sent.{mail_text}
+use Rattle.generated_mail.specs.Made.{source_stream}
 use Rattle.kem_mail.specs.declared.error.MailError.TheVariants.{XofExhausted as MailExhausted}
 use Rattle.kem_mail.specs.declared.error.SealMailError.{SealMailError}
 use Rattle.kem_mail.specs.declared.error.SealMailError.TheVariants.{NoMemory, XofExhausted, SealError, WriteFault}
-use Rattle.mail_commands.specs.Due.{source_stream}
 use Rattle.mail_commands.specs.Lines.{error_line}
 use Rattle.mail_commands.specs.Run.{IsTold}
 use Rattle.mail_commands.specs.declared.error.RunError.TheVariants.{InvalidKey as RunInvalidKey, Mail as RunMail}

@@ -13,3 +13,11 @@ returns-clause-middle c = refl
 pub returns-clause-greatest : goal.returns-clause-greatest
 unfolding digits
 returns-clause-greatest c = refl
+
+pub returns-clause-greatest_gen : goal.returns-clause-greatest_gen
+unfolding digits
+returns-clause-greatest_gen c = refl
+
+pub returns-clause-smallest_gen : goal.returns-clause-smallest_gen
+unfolding digits
+returns-clause-smallest_gen c = refl

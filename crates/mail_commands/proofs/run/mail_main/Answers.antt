@@ -2,13 +2,14 @@ use Rattle.std.proofs.Common.{inl, inr, map, refl, sym, subst, ◌∙◌}
 use Rattle.std.specs.String.{string_bytes}
 use Rattle.age_format.specs.Outside.{Rose}
 use Rattle.kem_mail.specs.Taken.{Lost}
-use Rattle.mail_commands.specs.Due.{outcome_output, outcome_status}
+use Rattle.mail_commands.specs.Due.{of_verdict, outcome_output, outcome_status}
 use Rattle.mail_commands.specs.Taken.{Takes}
 use Rattle.mail_commands.specs.Run.{Ran}
 use Rattle.mail_commands.specs.Lines.{no_command_line}
 use Rattle.mail_commands.specs.declared.command.Command.{Command}
 use Rattle.mail_commands.proofs.Dues.{one_command}
-use Rattle.mail_commands.proofs.Runs.{lost_most}
+use Rattle.mail_commands.specs.declared.command.Command.TheVariants.{Gen}
+use Rattle.mail_commands.proofs.Runs.{gen_status, lost_most}
 use Rattle.mail_commands.proofs.Tellings.{command_kind, command_owed, fault_told, memory, never_five, no_command_owed, no_other, no_read_fault, not_two, read_fault, read_part, silent_memory}
 use Rattle.mail_commands.proofs.Tellings.{tells_told, told_all, told_answered, told_complete, told_counts, told_fault, told_memory_part, told_no_fault, told_plan, told_status, told_write_part}
 use Rattle.mail_commands.proofs.run.mail_main.Goals as goal
@@ -217,3 +218,26 @@ pub returns-clause-plan : goal.returns-clause-plan
 returns-clause-plan g c =
     let sink = g.W.Sink in
     told_plan sink.got sink.faults sink.plan c.args.out.now c.run_command.new.out c.run_command.result (outcome_status c.run_command.ensures.ran.outcome) (outcome_output c.in-Some.command c.run_command.ensures.ran.outcome) (tells_told c.in-Some.command sink.got sink.faults sink.plan c.args.out.now c.run_command.new.out c.run_command.result (outcome_status c.run_command.ensures.ran.outcome) (outcome_output c.in-Some.command c.run_command.ensures.ran.outcome) c.run_command.ensures.ran.told)
+
+pub returns-in_default-clause-unread_by_gen : goal.returns-in_default-clause-unread_by_gen
+returns-in_default-clause-unread_by_gen g c = λ count spelled. absurd (c.in_default.ensures.none (Gen count) spelled)
+
+pub returns-in_default-clause-told_by_gen : goal.returns-in_default-clause-told_by_gen
+returns-in_default-clause-told_by_gen g c = λ count spelled. absurd (c.in_default.ensures.none (Gen count) spelled)
+
+pub returns-clause-unread_by_gen : goal.returns-clause-unread_by_gen
+returns-clause-unread_by_gen g c =
+    let sink = g.W.Sink in
+    λ count spelled.
+    let is = one_command (map string_bytes c.args.words.now) c.in-Some.command (Gen count) c.in-Some.ensures.found spelled in
+    let told = c.run_command.ensures.told count is in (
+      c.run_command.ensures.unread count is,
+      gen_status g.H.KemHash.family count told.verdict told.comes sink.got sink.faults sink.plan c.args.out.now c.run_command.new.out c.run_command.result (outcome_output (Gen count) (of_verdict told.verdict)) told.told,
+    )
+
+pub returns-clause-told_by_gen : goal.returns-clause-told_by_gen
+returns-clause-told_by_gen g c =
+    λ count spelled. c.run_command.ensures.told count (one_command (map string_bytes c.args.words.now) c.in-Some.command (Gen count) c.in-Some.ensures.found spelled)
+
+pub run_command-requires : goal.run_command-requires
+run_command-requires g c = c.in-Some.ensures.found.is_command

@@ -2,9 +2,10 @@ use Rattle.rand_core.specs.Steps.{stream_of, steps_u32}
 use Rattle.rand_core.specs.Stream.{fill_bytes}
 use Rattle.rand_chacha.specs.ChaCha.{next_word}
 use Rattle.mail_commands.specs.Command.{aead_algorithm, aead_seal}
-use Rattle.mail_commands.specs.Due.{source_stream}
+use Rattle.generated_mail.specs.Made.{source_stream}
+use Rattle.generated_mail.proofs.Sealed.{all_sealed}
 use Rattle.mail_commands.specs.declared.command.AeadName.TheVariants.{Aes128, Aes256}
-use Rattle.mail_commands.proofs.Sealings.{all_sealed, mail_ran}
+use Rattle.mail_commands.proofs.Sealings.{mail_ran}
 use Rattle.mail_commands.proofs.sealing.seal_aead.Goals as goal
 
 pub returns-in-Aes128 : goal.returns-in-Aes128
