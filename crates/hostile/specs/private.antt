@@ -1,0 +1,2 @@
+-- the family of zeros is lawful
+pub mod ZerosLaws
