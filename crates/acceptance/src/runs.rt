@@ -382,14 +382,6 @@ pub struct FaultyRun {
 /// A head of zeros is read in 130 calls, and a mail whole in the next.
 pub const FAULTY_RUNS: &[FaultyRun] = &[
     FaultyRun {
-        name: "head unread",
-        reads: &[0],
-        writes: &[],
-        input: ZERO_INPUT,
-        status: 4,
-        output: "",
-    },
-    FaultyRun {
         name: "mail unread",
         reads: &[130],
         writes: &[],
@@ -410,14 +402,6 @@ pub const FAULTY_RUNS: &[FaultyRun] = &[
         reads: &[],
         writes: &[0],
         input: DONE_INPUT,
-        status: 5,
-        output: "",
-    },
-    FaultyRun {
-        name: "messages unwritten",
-        reads: &[],
-        writes: &[0],
-        input: MESSAGES_INPUT,
         status: 5,
         output: "",
     },

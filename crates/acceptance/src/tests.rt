@@ -22,9 +22,6 @@ use std::test::Fail;
 /// More bytes than any input has.
 const WHOLE: usize = 65536;
 
-/// More writes than a mail of three messages takes.
-const MANY_WRITES: u64 = 100;
-
 /// The command of most runs.
 const OPEN: &str = "open 768 sha256 aes256 65536";
 
@@ -138,24 +135,6 @@ fn faulty_messages_have_their_places(rt: HostRuntime) -> Result<(), Fail> {
 #[test]
 fn keys_at_the_edges_have_their_answers(rt: HostRuntime) -> Result<(), Fail> {
     compare(&rt, edge_keys())
-}
-
-/// A fault of the sink while a mail is sealed leaves a front of the mail's text.
-#[test]
-fn a_fault_leaves_a_front_of_the_mail(rt: HostRuntime) -> Result<(), Fail> {
-    let row = &SEALS[0];
-    let mut status = 5;
-    for k in 0..MANY_WRITES {
-        if status == 5 {
-            let mut src = CleanSource::new(input(rt.alloc(), row.input)?);
-            let answer = run(rt.alloc(), row.command, &mut src, &[k])?;
-            assert!(rt; row.output.as_bytes().starts_with(&answer.output));
-            assert_eq!(rt; answer.output.len() == row.output.len(), answer.status == 0);
-            status = answer.status;
-        }
-    }
-    assert_eq!(rt; status, 0);
-    Ok(())
 }
 
 #[test]
