@@ -1,0 +1,16 @@
+//! Tests of single calls by tables of an independent model: what is sent, what the strict reader takes, and
+//! texts in Bech32.
+#![tactic(auto)]
+
+#[cfg(test)]
+mod bech32;
+#[cfg(test)]
+mod reads;
+#[cfg(test)]
+mod sends;
+#[cfg(test)]
+mod tests;
+#[cfg(test)]
+mod texts;
+#[cfg(test)]
+mod words;
