@@ -31,6 +31,7 @@ seal-no-message|seal 768 sha256 aes256|letter-of-none
 seal-three-messages|seal 768 sha256 aes256|letter
 seal-malformed|seal 768 sha256 aes256|letter-cut
 seal-invalid-key|seal 768 sha256 aes256|letter-to-ones
+gen|gen 3|empty
 no-command|open 769 sha256 aes256 65536|messages
 no-words||empty
 END

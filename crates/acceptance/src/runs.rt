@@ -340,8 +340,44 @@ pub fn heads() -> &'static [Run] {
     HEADS
 }
 
+/// `gen` for small numbers of messages, as an independent model told them. The input is not read.
+const GENERATED: &[Run] = &[
+    Run {
+        name: "no message made",
+        command: "gen 0",
+        input: &[ZERO_SEED],
+        status: 0,
+        output: "messages 0\nbytes 0\nmail 1490\ndigest 1671800b2edbed1942a38eaaba8de9cbcf81e7408ccd4b1caeb95e6b227b4e10\n",
+    },
+    Run {
+        name: "an empty message made",
+        command: "gen 1",
+        input: &[ZERO_SEED],
+        status: 0,
+        output: "messages 1\nbytes 0\nmail 1520\ndigest ecfe14527cbdd266f4065a86626d00e1f1f4c4baa6f4e7d9b9377e5c5a5f29c1\n",
+    },
+    Run {
+        name: "two messages made",
+        command: "gen 2",
+        input: &[ZERO_SEED],
+        status: 0,
+        output: "messages 2\nbytes 1\nmail 1598\ndigest 1c7510aff11a4ee35421b0e6b98fdc597effe598eff118f0907cdc327c5a47a7\n",
+    },
+    Run {
+        name: "ten messages made",
+        command: "gen 10",
+        input: &[ZERO_SEED],
+        status: 0,
+        output: "messages 10\nbytes 45\nmail 1893\ndigest e72162d0c7c4fb6c488d28c1b9c26ff63b6ee1f998da4079fbca2964448ea957\n",
+    },
+];
+
+pub fn generated() -> &'static [Run] {
+    GENERATED
+}
+
 /// Words that spell no command.
-pub const NO_COMMANDS: &[&str] = &[
+const NO_COMMANDS: &[&str] = &[
     "",
     "open 768 sha256 aes256 065536",
     "open 768 sha256 aes256 0",
@@ -351,7 +387,21 @@ pub const NO_COMMANDS: &[&str] = &[
     "open 768 sha256 aes256 16777217",
     "open 769 sha256 aes256 1",
     "key mask",
+    "gen",
+    "gen 00",
+    "gen 07",
+    "gen -0",
+    "gen +7",
+    "gen 2001",
+    "gen 18446744073709551623",
+    "gen 7 7",
+    "gen 7 ",
+    "gen 7\t",
 ];
+
+pub fn no_commands() -> &'static [&'static str] {
+    NO_COMMANDS
+}
 
 /// Commands, and the SHA-256 of what their runs write of the zero seed.
 pub const KEYS: &[(&str, &str)] = &[

@@ -2,8 +2,8 @@
 
 use crate::mails::OPENED;
 use crate::runs::{
-    COUNTED_RUNS, DONE_INPUT, FAULTY_RUNS, KEYS, MESSAGES_INPUT, NO_COMMANDS, Part, Run,
-    ZERO_INPUT, ZERO_MAIL, ZERO_SEED, heads, opened_mails, refusals,
+    COUNTED_RUNS, DONE_INPUT, FAULTY_RUNS, KEYS, MESSAGES_INPUT, Part, Run, ZERO_INPUT, ZERO_MAIL,
+    ZERO_SEED, generated, heads, no_commands, opened_mails, refusals,
 };
 use crate::seals::{OPENED_SEALS, SEALS, edge_keys, ended_inputs, faulty_lines, faulty_messages};
 use age_core::outside::{CleanSource, MemSink, MemSource, Source};
@@ -167,8 +167,26 @@ fn a_clean_source_gives_the_same(rt: HostRuntime) -> Result<(), Fail> {
 
 /// Other words are refused, and nothing is read.
 #[test]
+fn generated_mails_are_told(rt: HostRuntime) -> Result<(), Fail> {
+    for row in generated() {
+        let bytes = input(rt.alloc(), row.input)?;
+        let mut src = MemSource::new(bytes, WHOLE, Vec::new(rt.alloc()));
+        let answer = run(rt.alloc(), row.command, &mut src, &[])?;
+        assert_eq!(rt; answer.status, row.status, "{}", row.name);
+        assert_eq!(rt;
+            answer.output.as_slice(),
+            row.output.as_bytes(),
+            "{}",
+            row.name
+        );
+        assert_eq!(rt; src.reads(), 0);
+    }
+    Ok(())
+}
+
+#[test]
 fn other_words_are_refused(rt: HostRuntime) -> Result<(), Fail> {
-    for command in NO_COMMANDS {
+    for command in no_commands() {
         let mut src = MemSource::new(input(rt.alloc(), DONE_INPUT)?, WHOLE, Vec::new(rt.alloc()));
         let answer = run(rt.alloc(), command, &mut src, &[])?;
         assert_eq!(rt; answer.status, 2);
