@@ -1,11 +1,10 @@
-//! How fast AES-GCM, SHA-3, the lattice KEM and mails are on this machine, beside SHA-256, and the
-//! transforms of polynomials: a tool for the hand.
+//! How fast AES-GCM, SHA-3 and the lattice KEM are on this machine, beside SHA-256, and the transforms of
+//! polynomials: a tool for the hand.
 #![tactic(auto)]
 
 mod ciphers;
 mod hashes;
 mod lattice;
-mod mails;
 mod stopwatch;
 mod transforms;
 
@@ -17,8 +16,7 @@ use std::env::{self, Env};
 const USAGE: &str = "bench gcm    AES-GCM and SHA-256, in MB/s
 bench sha3   SHA3-256 and SHAKE128 over 16 KiB, in MB/s
 bench kem    the lattice KEM and SHA-256 over 8 KiB, in microseconds
-bench ntt    the transforms modulo 3329 and 8380417, in nanoseconds
-bench mail   mails of some 4 MB, sealed, read and opened, and their parts, in microseconds";
+bench ntt    the transforms modulo 3329 and 8380417, in nanoseconds";
 
 /// The first word after the program's name.
 fn word(rt: &(impl Env + AllocGlobal)) -> Result<Option<String>> {
@@ -31,7 +29,6 @@ fn main(rt: HostRuntime) -> Result<()> {
         Some("sha3") => hashes::print_all(&rt),
         Some("kem") => lattice::print_all(&rt),
         Some("ntt") => transforms::print_all(&rt),
-        Some("mail") => mails::print_all(&rt),
         _ => {
             println!(rt; "{USAGE}")?;
             Ok(())
