@@ -40,14 +40,20 @@ pub mod Seven
 pub mod ZetaTable
 -- the loop over the butterflies of a layer
 pub mod LayerLoop
--- the loops over the groups of a layer and over the butterflies of a group
-pub mod GroupLoop
+-- the loops over the rows of a layer and over the columns of two rows
+pub mod RowLoop
+-- layers over rows, and the layers of the transform that they make
+pub mod RowLayers
+-- the seven layers over rows, and those back
+pub mod SevenRows
+-- rows that become columns
+pub mod Across
 -- a layer, undone up to a factor, for any q and zetas
 pub mod Back
 -- seven layers back
 pub mod SevenBack
--- a list that is copied
-pub mod Copies
+-- lists that a loop fills
+pub mod Filled
 -- compression by a multiplier
 pub mod Multiplier
 -- products by the quotient of one factor

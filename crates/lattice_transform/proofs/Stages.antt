@@ -31,3 +31,6 @@ back-stages m t f positive whole long =
 
 pub back-stage : (m t : ℕ) (f : List ℕ) → 1 ≤ m → m * t ≡ 128 → length f ≡ 256 → BackStage 3329 zeta m f 128 (inverse_layer m f)
 back-stage m t f positive whole long = back-stages m t f positive whole long 128 (omega arith)
+
+pub length-back : (m t : ℕ) (f : List ℕ) → 1 ≤ m → m * t ≡ 128 → length f ≡ 256 → length (inverse_layer m f) ≡ 256
+length-back m t f positive whole long = let stage : BackStage 3329 zeta m f 128 (inverse_layer m f) = back-stage m t f positive whole long in stage.size

@@ -1,36 +1,53 @@
 //! The transform and its inverse, over arrays (FIPS 203, section 4.3, algorithms 9 and 10).
+//!
+//! Numbers are words of 16 bits, 16 rows of 16, so that the compiler makes eight products at once in a
+//! register of 16 bytes. Four layers join whole rows. The other three join numbers of one row, so rows and
+//! columns change places before them and after them.
 
-ghost use Rattle.std.specs.Prelude.{◌≡◌, ◌+◌, ◌*◌, ◌/◌, ◌^◌, ◌<◌, ◌≤◌, List, ℕ};
+ghost use Rattle.std.specs.Prelude.{◌≡◌, ◌+◌, ◌-◌, ◌*◌, ◌/◌, ◌%◌, ◌^◌, ◌<◌, ◌≤◌, List, ℕ};
 ghost use Rattle.module_lattice.specs.Ring.{IsPolynomial, butterfly, multiple, times};
-ghost use Rattle.lattice_transform.specs.Layers.{butterflies, inverse_butterflies, inverse_butterfly, inverse_layer, layer};
+ghost use Rattle.lattice_transform.specs.Layers.{inverse_butterfly};
+ghost use Rattle.lattice_transform.specs.Rows.{AreRows, inverse_row_butterflies, row_butterflies, shuffled, transposed};
 ghost use Rattle.lattice_transform.specs.Transform.{inverse_transform, transform};
 
-use crate::layers::BUTTERFLIES;
-use crate::zetas::{quotient, zeta};
-use module_lattice::{BaseField, Elem, Field, NttPolynomial, Polynomial};
+use crate::zetas::{row_quotient, row_zeta};
+use module_lattice::{BaseField, Field, NttPolynomial, Polynomial};
 
 // The coefficients of a polynomial.
 const DEGREE: usize = 256;
 
+// The numbers of a row.
+const COLUMNS: usize = 16;
+
+// The pairs of rows that a layer joins.
+const PAIRS: usize = 8;
+
+// The modulus.
+const Q: u16 = BaseField::Q as u16;
+
 // The bits that the quotients of the zetas have after the point.
-const QUOTIENT_BITS: usize = 20;
+const QUOTIENT_BITS: usize = 16;
 
 // 1/128 modulo 3329.
-const INVERSE_OF_128: u32 = 3303;
+const INVERSE_OF_128: u16 = 3303;
+
+// 2^16 times it over 3329, rounded down.
+const QUOTIENT_OF_INVERSE: u16 = 65024;
 
 /// The transform of a polynomial, in seven layers. It takes no memory.
 pub fn ntt(f: &Polynomial<BaseField>) -> NttPolynomial<BaseField>
     ensures { result ≡ transform f.now }
 {
-    let mut values = f.into_array();
-    make_layer(&mut values, 128);
-    make_layer(&mut values, 64);
-    make_layer(&mut values, 32);
-    make_layer(&mut values, 16);
-    make_layer(&mut values, 8);
-    make_layer(&mut values, 4);
-    make_layer(&mut values, 2);
-    NttPolynomial::new(values)
+    let mut rows = narrowed(&f.into_array());
+    make_layer(&mut rows, 8, 0);
+    make_layer(&mut rows, 4, 0);
+    make_layer(&mut rows, 2, 0);
+    make_layer(&mut rows, 1, 0);
+    let mut columns = turned_over(&rows);
+    make_layer(&mut columns, 8, 1);
+    make_layer(&mut columns, 4, 1);
+    make_layer(&mut columns, 2, 1);
+    NttPolynomial::new(widened(&turned_over(&columns)))
 }
 
 /// The polynomial whose transform this is: seven layers from the last, and then the factor 3303. It
@@ -38,15 +55,16 @@ pub fn ntt(f: &Polynomial<BaseField>) -> NttPolynomial<BaseField>
 pub fn ntt_inverse(f: &NttPolynomial<BaseField>) -> Polynomial<BaseField>
     ensures { result ≡ inverse_transform f.now }
 {
-    let mut values = numbers(f);
-    undo_layer(&mut values, 2);
-    undo_layer(&mut values, 4);
-    undo_layer(&mut values, 8);
-    undo_layer(&mut values, 16);
-    undo_layer(&mut values, 32);
-    undo_layer(&mut values, 64);
-    undo_layer(&mut values, 128);
-    Elem::new(INVERSE_OF_128) * &Polynomial::new(values)
+    let mut columns = turned_over(&narrowed(&numbers(f)));
+    undo_layer(&mut columns, 2, 1);
+    undo_layer(&mut columns, 4, 1);
+    undo_layer(&mut columns, 8, 1);
+    let mut rows = turned_over(&columns);
+    undo_layer(&mut rows, 1, 0);
+    undo_layer(&mut rows, 2, 0);
+    undo_layer(&mut rows, 4, 0);
+    undo_layer(&mut rows, 8, 0);
+    Polynomial::new(widened(&scaled(&rows)))
 }
 
 // The numbers of a polynomial in the transform domain.
@@ -61,120 +79,180 @@ fn numbers(f: &NttPolynomial<BaseField>) -> [u32; DEGREE]
     values
 }
 
-// One layer, whose butterflies join places `half` apart. Each layer has a copy of its own, so that the
-// compiler knows how far apart they are and puts several butterflies into lanes.
+// The same numbers in words of 16 bits.
+fn narrowed(values: &[u32; DEGREE]) -> [u16; DEGREE]
+    requires { IsPolynomial 3329 values.now }
+    ensures { result ≡ values.now }
+{
+    let mut out = [0; DEGREE];
+    for i in 0..DEGREE {
+        out[i] = values[i] as u16;
+    }
+    out
+}
+
+// The same numbers in words of 32 bits.
+fn widened(values: &[u16; DEGREE]) -> [u32; DEGREE]
+    ensures { result ≡ values.now }
+{
+    let mut out = [0; DEGREE];
+    for i in 0..DEGREE {
+        out[i] = u32::from(values[i]);
+    }
+    out
+}
+
+// The numbers times 1/128.
+fn scaled(values: &[u16; DEGREE]) -> [u16; DEGREE]
+    requires { IsPolynomial 3329 values.now }
+    ensures { result ≡ multiple 3329 3303 values.now }
+{
+    let mut out = [0; DEGREE];
+    for i in 0..DEGREE {
+        out[i] = turned(INVERSE_OF_128, QUOTIENT_OF_INVERSE, values[i]);
+    }
+    out
+}
+
+// Rows become columns. Each of four shuffles is a plain loop that becomes lanes, and a loop over rows and
+// columns would move numbers one by one.
+fn turned_over(values: &[u16; DEGREE]) -> [u16; DEGREE]
+    ensures { result ≡ transposed values.now }
+{
+    shuffled(&shuffled(&shuffled(&shuffled(values))))
+}
+
+// The two halves by turns.
+fn shuffled(values: &[u16; DEGREE]) -> [u16; DEGREE]
+    ensures { result ≡ shuffled values.now }
+{
+    let mut out = [0; DEGREE];
+    for k in 0..DEGREE / 2 {
+        out[2 * k] = values[k];
+        out[2 * k + 1] = values[k + DEGREE / 2];
+    }
+    out
+}
+
+// One layer, whose butterflies join rows `half` apart. Each layer has a copy of its own, so that the
+// compiler knows how far apart they are.
 #[inline(always)]
-fn make_layer(values: &mut [u32; DEGREE], half: usize)
-    requires low { 2 ≤ half }
-    requires whole { half * (128 / half) ≡ 128 }
+fn make_layer(values: &mut [u16; DEGREE], half: usize, step: usize)
+    requires rows { AreRows half step }
     requires polynomial { IsPolynomial 3329 values.old }
-    ensures value { values.new ≡ layer half values.old }
+    ensures value { values.new ≡ row_butterflies half step 128 values.old }
     ensures polynomial { IsPolynomial 3329 values.new }
 {
-    for group in 0..BUTTERFLIES / half {
-        make_group(values, half, group);
+    for row in 0..PAIRS {
+        make_row(values, half, step, row);
     }
 }
 
-// The butterflies of one group of a layer, which turn by one zeta: places that lie side by side join
-// places that do, so that several butterflies can be made at once.
+// The butterflies of two rows.
 #[inline(always)]
-fn make_group(values: &mut [u32; DEGREE], half: usize, group: usize)
-    requires low { 2 ≤ half }
-    requires whole { half * (128 / half) ≡ 128 }
-    requires place { group < 128 / half }
+fn make_row(values: &mut [u16; DEGREE], half: usize, step: usize, row: usize)
+    requires rows { AreRows half step }
+    requires inside { row < 8 }
     requires polynomial { IsPolynomial 3329 values.old }
-    ensures value { (f : List ℕ) → values.old ≡ butterflies half (half * group) f
-        → values.new ≡ butterflies half (half * group + half) f }
+    ensures value { (f : List ℕ) → values.old ≡ row_butterflies half step (16 * row) f
+        → values.new ≡ row_butterflies half step (16 * row + 16) f }
     ensures polynomial { IsPolynomial 3329 values.new }
 {
-    let first = 2 * (half * group);
-    let turn = zeta(BUTTERFLIES / half + group);
-    let ratio = quotient(BUTTERFLIES / half + group);
-    for j in 0..half {
-        butterfly(values, first + j, first + j + half, turn, ratio);
+    let first = COLUMNS * (row + half * (row / half));
+    let second = first + COLUMNS * half;
+    let place = (1 + 15 * step) * (PAIRS / half + row / half);
+    for column in 0..COLUMNS {
+        let turn = row_zeta(place + step * column);
+        let ratio = row_quotient(place + step * column);
+        butterfly(values, first + column, second + column, turn, ratio);
     }
 }
 
 // The layer that undoes it, up to a factor of 2. Its zetas go downwards.
 #[inline(always)]
-fn undo_layer(values: &mut [u32; DEGREE], half: usize)
-    requires low { 2 ≤ half }
-    requires whole { half * (128 / half) ≡ 128 }
+fn undo_layer(values: &mut [u16; DEGREE], half: usize, step: usize)
+    requires rows { AreRows half step }
     requires polynomial { IsPolynomial 3329 values.old }
-    ensures value { values.new ≡ inverse_layer half values.old }
+    ensures value { values.new ≡ inverse_row_butterflies half step 128 values.old }
     ensures polynomial { IsPolynomial 3329 values.new }
 {
-    for group in 0..BUTTERFLIES / half {
-        undo_group(values, half, group);
+    for row in 0..PAIRS {
+        undo_row(values, half, step, row);
     }
 }
 
-// The butterflies of one of its groups.
+// The butterflies of two of its rows.
 #[inline(always)]
-fn undo_group(values: &mut [u32; DEGREE], half: usize, group: usize)
-    requires low { 2 ≤ half }
-    requires whole { half * (128 / half) ≡ 128 }
-    requires place { group < 128 / half }
+fn undo_row(values: &mut [u16; DEGREE], half: usize, step: usize, row: usize)
+    requires rows { AreRows half step }
+    requires inside { row < 8 }
     requires polynomial { IsPolynomial 3329 values.old }
-    ensures value { (f : List ℕ) → values.old ≡ inverse_butterflies half (half * group) f
-        → values.new ≡ inverse_butterflies half (half * group + half) f }
+    ensures value { (f : List ℕ) → values.old ≡ inverse_row_butterflies half step (16 * row) f
+        → values.new ≡ inverse_row_butterflies half step (16 * row + 16) f }
     ensures polynomial { IsPolynomial 3329 values.new }
 {
-    let first = 2 * (half * group);
-    let turn = zeta(2 * (BUTTERFLIES / half) - 1 - group);
-    let ratio = quotient(2 * (BUTTERFLIES / half) - 1 - group);
-    for j in 0..half {
-        inverse_butterfly(values, first + j, first + j + half, turn, ratio);
+    let first = COLUMNS * (row + half * (row / half));
+    let second = first + COLUMNS * half;
+    let place = (1 + 15 * step) * (2 * PAIRS / half - 1 - row / half);
+    for column in 0..COLUMNS {
+        let turn = row_zeta(place + step * (COLUMNS - 1 - column));
+        let ratio = row_quotient(place + step * (COLUMNS - 1 - column));
+        inverse_butterfly(values, first + column, second + column, turn, ratio);
     }
 }
 
 // a + zeta·b at `i`, and a - zeta·b at `j`.
 #[inline(always)]
-fn butterfly(values: &mut [u32; DEGREE], i: usize, j: usize, zeta: Elem<BaseField>, quotient: u32)
+fn butterfly(values: &mut [u16; DEGREE], i: usize, j: usize, zeta: u16, quotient: u16)
     requires first { i < 256 }
     requires second { j < 256 }
-    requires quotient { quotient ≡ zeta * 2 ^ 20 / 3329 }
+    requires zeta { zeta < 3329 }
+    requires quotient { quotient ≡ zeta * 2 ^ 16 / 3329 }
     requires polynomial { IsPolynomial 3329 values.old }
     ensures value { values.new ≡ butterfly 3329 i j zeta values.old }
     ensures polynomial { IsPolynomial 3329 values.new }
 {
-    let a = Elem::<BaseField>::new(values[i]);
-    let turned = turned(zeta, quotient, Elem::new(values[j]));
-    values[i] = (a + turned).get();
-    values[j] = (a - turned).get();
+    let a = values[i];
+    let turned = turned(zeta, quotient, values[j]);
+    values[i] = reduced(a + turned);
+    values[j] = reduced(a + Q - turned);
 }
 
 // a + b at `i`, and zeta·(b - a) at `j`.
 #[inline(always)]
-fn inverse_butterfly(
-    values: &mut [u32; DEGREE],
-    i: usize,
-    j: usize,
-    zeta: Elem<BaseField>,
-    quotient: u32,
-)
+fn inverse_butterfly(values: &mut [u16; DEGREE], i: usize, j: usize, zeta: u16, quotient: u16)
     requires first { i < 256 }
     requires second { j < 256 }
-    requires quotient { quotient ≡ zeta * 2 ^ 20 / 3329 }
+    requires zeta { zeta < 3329 }
+    requires quotient { quotient ≡ zeta * 2 ^ 16 / 3329 }
     requires polynomial { IsPolynomial 3329 values.old }
     ensures value { values.new ≡ inverse_butterfly i j zeta values.old }
     ensures polynomial { IsPolynomial 3329 values.new }
 {
-    let a = Elem::<BaseField>::new(values[i]);
-    let b = Elem::new(values[j]);
-    values[i] = (a + b).get();
-    values[j] = turned(zeta, quotient, b - a).get();
+    let a = values[i];
+    let b = values[j];
+    values[i] = reduced(a + b);
+    values[j] = turned(zeta, quotient, b + Q - a);
 }
 
-// zeta·b. The quotient that was computed before takes the place of a reduction's: the product less the
-// multiple of 3329 is below 2·3329.
+// zeta·b, for any b. The quotient that was computed before takes the place of a reduction's: the product
+// less the multiple of 3329 is below 2·3329, so it is what is left of both modulo 2^16.
 #[inline(always)]
-fn turned(zeta: Elem<BaseField>, quotient: u32, b: Elem<BaseField>) -> Elem<BaseField>
-    requires { quotient ≡ zeta * 2 ^ 20 / 3329 }
+fn turned(zeta: u16, quotient: u16, b: u16) -> u16
+    requires zeta { zeta < 3329 }
+    requires quotient { quotient ≡ zeta * 2 ^ 16 / 3329 }
     ensures { result ≡ times 3329 zeta b }
 {
-    let multiple = (quotient * b.get()) >> QUOTIENT_BITS;
-    let remainder = zeta.get() * b.get() - multiple * BaseField::Q;
-    Elem::new(BaseField::small_reduce(remainder))
+    let multiple = ((u32::from(quotient) * u32::from(b)) >> QUOTIENT_BITS) as u16;
+    let product = zeta.wrapping_mul(b);
+    reduced(product.wrapping_sub(multiple.wrapping_mul(Q)))
+}
+
+// An x below 2·3329 modulo 3329, by one subtraction at most: of an x below 3329 the difference wraps, and is the greater.
+#[inline(always)]
+fn reduced(x: u16) -> u16
+    requires { x < 6658 }
+    ensures { result ≡ x % 3329 }
+{
+    x.min(x.wrapping_sub(Q))
 }

@@ -1,18 +1,23 @@
-use Rattle.std.proofs.Common.{◌∙◌, ap, subst}
+use Rattle.std.proofs.Common.{◌∙◌, subst, sym}
 use Rattle.module_lattice.specs.Ring.{IsPolynomial}
-use Rattle.lattice_transform.specs.Layers.{layer}
-use Rattle.lattice_transform.proofs.Seven.{layers-transform}
+use Rattle.lattice_transform.proofs.Across.{polynomial-transposed}
+use Rattle.lattice_transform.proofs.Polynomials.{IsPolynomial-transform}
+use Rattle.lattice_transform.proofs.SevenRows.{by-rows}
 use Rattle.lattice_transform.proofs.arrays.ntt.Goals as goal
+
+pub make_layer-requires-5-clause-polynomial : goal.make_layer-requires-5-clause-polynomial
+make_layer-requires-5-clause-polynomial c = subst (IsPolynomial 3329) (sym c.turned_over-columns.ensures) (polynomial-transposed 3329 _ c.make_layer-4.ensures.polynomial)
+
+pub new-requires : goal.new-requires
+new-requires c =
+    (subst (IsPolynomial 3329) (sym (by-rows c.args.f.now _ _ _ _ _ _ _ _ _ _ (subst (IsPolynomial 3329) c.into_array.ensures.value c.into_array.ensures.polynomial) c.make_layer-4.ensures.polynomial.size
+    (c.narrowed-rows.ensures ∙ c.into_array.ensures.value) c.make_layer.ensures.value c.make_layer-2.ensures.value c.make_layer-3.ensures.value c.make_layer-4.ensures.value
+    c.turned_over-columns.ensures c.make_layer-5.ensures.value c.make_layer-6.ensures.value c.make_layer-7.ensures.value (c.widened.ensures ∙ c.turned_over.ensures)))
+    (IsPolynomial-transform c.args.f.now)).each
 
 pub returns : goal.returns
 returns c =
     c.new.ensures
-    ∙ c.make_layer-7.ensures.value
-    ∙ ap (layer 2) (c.make_layer-6.ensures.value
-    ∙ ap (layer 4) (c.make_layer-5.ensures.value
-    ∙ ap (layer 8) (c.make_layer-4.ensures.value
-    ∙ ap (layer 16) (c.make_layer-3.ensures.value
-    ∙ ap (layer 32) (c.make_layer-2.ensures.value
-    ∙ ap (layer 64) (c.make_layer.ensures.value
-    ∙ ap (layer 128) c.into_array-values.ensures.value))))))
-    ∙ layers-transform c.args.f.now (subst (IsPolynomial 3329) c.into_array-values.ensures.value c.into_array-values.ensures.polynomial)
+    ∙ by-rows c.args.f.now _ _ _ _ _ _ _ _ _ _ (subst (IsPolynomial 3329) c.into_array.ensures.value c.into_array.ensures.polynomial) c.make_layer-4.ensures.polynomial.size
+    (c.narrowed-rows.ensures ∙ c.into_array.ensures.value) c.make_layer.ensures.value c.make_layer-2.ensures.value c.make_layer-3.ensures.value c.make_layer-4.ensures.value
+    c.turned_over-columns.ensures c.make_layer-5.ensures.value c.make_layer-6.ensures.value c.make_layer-7.ensures.value (c.widened.ensures ∙ c.turned_over.ensures)

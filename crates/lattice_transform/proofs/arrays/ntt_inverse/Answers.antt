@@ -1,19 +1,28 @@
-use Rattle.std.proofs.Common.{◌∙◌, ap, ap₂, subst}
-use Rattle.module_lattice.specs.Ring.{IsPolynomial, multiple}
-use Rattle.lattice_transform.specs.Layers.{inverse_layer}
-use Rattle.lattice_transform.proofs.SevenBack.{inverse-layers}
+use Rattle.std.proofs.Common.{◌∙◌, ap, subst, sym}
+use Rattle.module_lattice.specs.Ring.{IsPolynomial}
+use Rattle.lattice_transform.specs.Rows.{transposed}
+use Rattle.lattice_transform.proofs.Across.{polynomial-transposed}
+use Rattle.lattice_transform.proofs.Polynomials.{IsPolynomial-inverse}
+use Rattle.lattice_transform.proofs.SevenRows.{back-by-rows}
 use Rattle.lattice_transform.proofs.arrays.ntt_inverse.Goals as goal
+
+pub undo_layer-requires-clause-polynomial : goal.undo_layer-requires-clause-polynomial
+undo_layer-requires-clause-polynomial c =
+    subst (IsPolynomial 3329) (sym (c.turned_over-columns.ensures ∙ ap transposed c.narrowed.ensures)) (polynomial-transposed 3329 _ c.numbers.ensures.polynomial)
+
+pub undo_layer-requires-4-clause-polynomial : goal.undo_layer-requires-4-clause-polynomial
+undo_layer-requires-4-clause-polynomial c = subst (IsPolynomial 3329) (sym c.turned_over-rows.ensures) (polynomial-transposed 3329 _ c.undo_layer-3.ensures.polynomial)
+
+pub new-requires : goal.new-requires
+new-requires c =
+    (subst (IsPolynomial 3329) (sym (back-by-rows c.args.f.now _ _ _ _ _ _ _ _ _ _ (subst (IsPolynomial 3329) c.numbers.ensures.value c.numbers.ensures.polynomial)
+    (c.turned_over-columns.ensures ∙ ap transposed (c.narrowed.ensures ∙ c.numbers.ensures.value)) c.undo_layer.ensures.value c.undo_layer-2.ensures.value c.undo_layer-3.ensures.value
+    c.turned_over-rows.ensures c.undo_layer-4.ensures.value c.undo_layer-5.ensures.value c.undo_layer-6.ensures.value c.undo_layer-7.ensures.value (c.widened.ensures ∙ c.scaled.ensures)))
+    (IsPolynomial-inverse c.args.f.now)).each
 
 pub returns : goal.returns
 returns c =
-    c.mul.ensures
-    ∙ ap₂ (multiple 3329) c.new.ensures (c.new-2.ensures
-    ∙ c.undo_layer-7.ensures.value
-    ∙ ap (inverse_layer 128) (c.undo_layer-6.ensures.value
-    ∙ ap (inverse_layer 64) (c.undo_layer-5.ensures.value
-    ∙ ap (inverse_layer 32) (c.undo_layer-4.ensures.value
-    ∙ ap (inverse_layer 16) (c.undo_layer-3.ensures.value
-    ∙ ap (inverse_layer 8) (c.undo_layer-2.ensures.value
-    ∙ ap (inverse_layer 4) (c.undo_layer.ensures.value
-    ∙ ap (inverse_layer 2) c.numbers-values.ensures.value)))))))
-    ∙ inverse-layers c.args.f.now (subst (IsPolynomial 3329) c.numbers-values.ensures.value c.numbers-values.ensures.polynomial)
+    c.new.ensures
+    ∙ back-by-rows c.args.f.now _ _ _ _ _ _ _ _ _ _ (subst (IsPolynomial 3329) c.numbers.ensures.value c.numbers.ensures.polynomial)
+    (c.turned_over-columns.ensures ∙ ap transposed (c.narrowed.ensures ∙ c.numbers.ensures.value)) c.undo_layer.ensures.value c.undo_layer-2.ensures.value c.undo_layer-3.ensures.value
+    c.turned_over-rows.ensures c.undo_layer-4.ensures.value c.undo_layer-5.ensures.value c.undo_layer-6.ensures.value c.undo_layer-7.ensures.value (c.widened.ensures ∙ c.scaled.ensures)

@@ -1,20 +1,20 @@
-use Rattle.std.proofs.Common.{◌*◌, refl, arith, rules}
-use Rattle.lattice_transform.specs.Layers.{inverse_butterflies}
-use Rattle.lattice_transform.proofs.GroupLoop.{inverse-same, inverse-of-groups}
+use Rattle.std.proofs.Common.{refl, arith}
+use Rattle.lattice_transform.specs.Rows.{inverse_row_butterflies}
+use Rattle.lattice_transform.proofs.RowLoop.{back-same}
 use Rattle.lattice_transform.proofs.arrays.undo_layer.Goals as goal
 
-pub loop-group-init : goal.loop-group-init
-unfolding inverse_butterflies
-loop-group-init c = record { made = inverse-same c.args.half 0 (c.args.half * 0) _ _ (omega arith) refl; polynomial = c.requires.polynomial }
+pub loop-row-init : goal.loop-row-init
+unfolding inverse_row_butterflies
+loop-row-init c = record { made = refl; polynomial = c.requires.polynomial }
 
-pub loop-group-preserved : goal.loop-group-preserved
-loop-group-preserved c = record {
-  made = inverse-same c.args.half _ _ _ _ (omega arith) (c.undo_group.ensures.value _ c.loop-group.invariant.made);
-  polynomial = c.undo_group.ensures.polynomial;
+pub loop-row-preserved : goal.loop-row-preserved
+loop-row-preserved c = record {
+  made = back-same c.args.half c.args.step _ _ _ _ (omega arith) (c.undo_row.ensures.value _ c.loop-row.invariant.made);
+  polynomial = c.undo_row.ensures.polynomial;
 }
 
 pub returns : goal.returns
 returns c = record {
-  value = inverse-of-groups c.args.half c.loop-group.group _ _ c.requires.whole (search rules) c.loop-group.invariant.made;
-  polynomial = c.loop-group.invariant.polynomial;
+  value = back-same c.args.half c.args.step _ _ _ _ (omega arith) c.loop-row.invariant.made;
+  polynomial = c.loop-row.invariant.polynomial;
 }

@@ -1,0 +1,7 @@
+use Rattle.std.proofs.Common.{◌*◌, get_or}
+use Rattle.lattice_transform.specs.Rows.{by_turns}
+use Rattle.lattice_transform.proofs.Filled.{Filled}
+use Rattle.lattice_transform.proofs.arrays.shuffled.Given as goal
+
+abbrev pub invariant-loop-k : goal.invariant-loop-k
+invariant-loop-k l = Filled (λ p. get_or l.values (by_turns p) 0) (2 * l.k) l.out
