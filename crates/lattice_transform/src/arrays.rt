@@ -38,16 +38,18 @@ const QUOTIENT_OF_INVERSE: u16 = 65024;
 pub fn ntt(f: &Polynomial<BaseField>) -> NttPolynomial<BaseField>
     ensures { result ≡ transform f.now }
 {
-    let mut rows = narrowed(&f.into_array());
+    let mut rows = [0; DEGREE];
+    narrow(f, &mut rows);
     make_layer(&mut rows, 8, 0);
     make_layer(&mut rows, 4, 0);
     make_layer(&mut rows, 2, 0);
     make_layer(&mut rows, 1, 0);
-    let mut columns = turned_over(&rows);
-    make_layer(&mut columns, 8, 1);
-    make_layer(&mut columns, 4, 1);
-    make_layer(&mut columns, 2, 1);
-    NttPolynomial::new(widened(&turned_over(&columns)))
+    turn_over(&mut rows);
+    make_layer(&mut rows, 8, 1);
+    make_layer(&mut rows, 4, 1);
+    make_layer(&mut rows, 2, 1);
+    turn_over(&mut rows);
+    NttPolynomial::new(widened(&rows))
 }
 
 /// The polynomial whose transform this is: seven layers from the last, and then the factor 3303. It
@@ -55,83 +57,86 @@ pub fn ntt(f: &Polynomial<BaseField>) -> NttPolynomial<BaseField>
 pub fn ntt_inverse(f: &NttPolynomial<BaseField>) -> Polynomial<BaseField>
     ensures { result ≡ inverse_transform f.now }
 {
-    let mut columns = turned_over(&narrowed(&numbers(f)));
-    undo_layer(&mut columns, 2, 1);
-    undo_layer(&mut columns, 4, 1);
-    undo_layer(&mut columns, 8, 1);
-    let mut rows = turned_over(&columns);
+    let mut rows = [0; DEGREE];
+    narrow_transformed(f, &mut rows);
+    turn_over(&mut rows);
+    undo_layer(&mut rows, 2, 1);
+    undo_layer(&mut rows, 4, 1);
+    undo_layer(&mut rows, 8, 1);
+    turn_over(&mut rows);
     undo_layer(&mut rows, 1, 0);
     undo_layer(&mut rows, 2, 0);
     undo_layer(&mut rows, 4, 0);
     undo_layer(&mut rows, 8, 0);
-    Polynomial::new(widened(&scaled(&rows)))
+    scale(&mut rows);
+    Polynomial::new(widened(&rows))
 }
 
-// The numbers of a polynomial in the transform domain.
-fn numbers(f: &NttPolynomial<BaseField>) -> [u32; DEGREE]
-    ensures value { result ≡ f.now }
-    ensures polynomial { IsPolynomial 3329 result }
+// The coefficients of a polynomial, in words of 16 bits.
+#[inline(always)]
+fn narrow(f: &Polynomial<BaseField>, rows: &mut [u16; DEGREE])
+    ensures value { rows.new ≡ f.now }
+    ensures polynomial { IsPolynomial 3329 rows.new }
 {
-    let mut values = [0; DEGREE];
     for i in 0..DEGREE {
-        values[i] = f.coefficient(i).get();
+        rows[i] = f.coefficient(i).get() as u16;
     }
-    values
 }
 
-// The same numbers in words of 16 bits.
-fn narrowed(values: &[u32; DEGREE]) -> [u16; DEGREE]
-    requires { IsPolynomial 3329 values.now }
-    ensures { result ≡ values.now }
+// The numbers of a polynomial in the transform domain, in words of 16 bits.
+#[inline(always)]
+fn narrow_transformed(f: &NttPolynomial<BaseField>, rows: &mut [u16; DEGREE])
+    ensures value { rows.new ≡ f.now }
+    ensures polynomial { IsPolynomial 3329 rows.new }
 {
-    let mut out = [0; DEGREE];
     for i in 0..DEGREE {
-        out[i] = values[i] as u16;
+        rows[i] = f.coefficient(i).get() as u16;
     }
-    out
 }
 
 // The same numbers in words of 32 bits.
-fn widened(values: &[u16; DEGREE]) -> [u32; DEGREE]
-    ensures { result ≡ values.now }
+#[inline(always)]
+fn widened(rows: &[u16; DEGREE]) -> [u32; DEGREE]
+    ensures { result ≡ rows.now }
 {
     let mut out = [0; DEGREE];
     for i in 0..DEGREE {
-        out[i] = u32::from(values[i]);
+        out[i] = u32::from(rows[i]);
     }
     out
 }
 
-// The numbers times 1/128.
-fn scaled(values: &[u16; DEGREE]) -> [u16; DEGREE]
-    requires { IsPolynomial 3329 values.now }
-    ensures { result ≡ multiple 3329 3303 values.now }
+// Makes each number 1/128 of it.
+#[inline(always)]
+fn scale(rows: &mut [u16; DEGREE])
+    ensures { rows.new ≡ multiple 3329 3303 rows.old }
 {
-    let mut out = [0; DEGREE];
     for i in 0..DEGREE {
-        out[i] = turned(INVERSE_OF_128, QUOTIENT_OF_INVERSE, values[i]);
+        rows[i] = turned(INVERSE_OF_128, QUOTIENT_OF_INVERSE, rows[i]);
     }
-    out
 }
 
 // Rows become columns. Each of four shuffles is a plain loop that becomes lanes, and a loop over rows and
 // columns would move numbers one by one.
-fn turned_over(values: &[u16; DEGREE]) -> [u16; DEGREE]
-    ensures { result ≡ transposed values.now }
+fn turn_over(rows: &mut [u16; DEGREE])
+    ensures { rows.new ≡ transposed rows.old }
 {
-    shuffled(&shuffled(&shuffled(&shuffled(values))))
+    let mut other = [0; DEGREE];
+    shuffle(rows, &mut other);
+    shuffle(&other, rows);
+    shuffle(rows, &mut other);
+    shuffle(&other, rows);
 }
 
 // The two halves by turns.
-fn shuffled(values: &[u16; DEGREE]) -> [u16; DEGREE]
-    ensures { result ≡ shuffled values.now }
+#[inline(always)]
+fn shuffle(from: &[u16; DEGREE], to: &mut [u16; DEGREE])
+    ensures { to.new ≡ shuffled from.now }
 {
-    let mut out = [0; DEGREE];
     for k in 0..DEGREE / 2 {
-        out[2 * k] = values[k];
-        out[2 * k + 1] = values[k + DEGREE / 2];
+        to[2 * k] = from[k];
+        to[2 * k + 1] = from[k + DEGREE / 2];
     }
-    out
 }
 
 // One layer, whose butterflies join rows `half` apart. Each layer has a copy of its own, so that the
