@@ -3,6 +3,7 @@ mod Modular
 mod Places
 mod Powers
 mod Products
+mod Sums
 mod Totals
 mod Vectors
 pub mod BitLists

@@ -9,7 +9,7 @@ use Rattle.std.proofs.lemmas.Simd.{length-zip2, get_or-zip2}
 use Rattle.module_lattice.specs.Ring.{IsPolynomial}
 
 -- what is below n + 1 and not n is below n
-below_next : (k n : ℕ) → k < n + 1 → k ≢ n → k < n
+pub below_next : (k n : ℕ) → k < n + 1 → k ≢ n → k < n
 below_next k n before other = omega arith
 
 -- 256 numbers, of which each of the first n has this value, below q

@@ -4,7 +4,7 @@ use Rattle.std.specs.List.{flat_map, range_with_len}
 use Rattle.std.proofs.Math.ListN.{set}
 use Rattle.std.proofs.Math.Nat.{add-mod-mod, mod-lt}
 use Rattle.std.proofs.lemmas.Nat.{mul-mod_first}
-use Rattle.std.proofs.lemmas.List.Concat.{flat_map-cons}
+use Rattle.std.proofs.lemmas.List.Concat.{flat_map-cons, length-flat_map}
 use Rattle.std.proofs.lemmas.Grind.{flat_map-append, take-set_at}
 use Rattle.std.proofs.Math.Seq.{take-length}
 use Rattle.std.proofs.lemmas.List.{append-nil, length-replicate, length-set}
@@ -48,14 +48,14 @@ flat_map-range_suc h i =
     ∙ ap (flat_map h) (range_with_len-suc 0 i i (omega arith)) ∙ flat_map-append h (range_with_len 0 i) (i ∷ [])
     ∙ ap (λ t. flat_map h (range_with_len 0 i) ++ t) (flat_map-cons h i [] ∙ append-nil (h i))
 
--- 256 numbers, of which the first i pairs are the products
-pub record Multiplied (f g : List ℕ) (i : ℕ) (out : List ℕ) : Type 0 where
+-- 256 numbers, of which the first i pairs are those of h
+pub record Paired (h : ℕ → List ℕ) (i : ℕ) (out : List ℕ) : Type 0 where
   pub size : length out ≡ 256
-  pub done : take (2 * i) out ≡ flat_map (pair_product f g) (range_with_len 0 i)
+  pub done : take (2 * i) out ≡ flat_map h (range_with_len 0 i)
 
-pub next_pair : (f g out pair : List ℕ) (i : ℕ) → i < 128 → pair ≡ pair_product f g i → Multiplied f g i out
-    → Multiplied f g (i + 1) (set (set out (2 * i) (get_or pair 0 0)) (2 * i + 1) (get_or pair 1 0))
-next_pair f g out pair i inside is before =
+pub next_pair : (h : ℕ → List ℕ) (out pair : List ℕ) (i x y : ℕ) → i < 128 → pair ≡ x ∷ y ∷ [] → h i ≡ x ∷ y ∷ [] → Paired h i out
+    → Paired h (i + 1) (set (set out (2 * i) (get_or pair 0 0)) (2 * i + 1) (get_or pair 1 0))
+next_pair h out pair i x y inside is at before =
     let a = get_or pair 0 0 in
     let b = get_or pair 1 0 in
     record {
@@ -65,25 +65,33 @@ next_pair f g out pair i inside is before =
           ∙ ap (λ t. t ++ b ∷ []) (take-set_at out (2 * i) (2 * i + 1) a refl (omega (arith, before.size)))
           ∙ append_assoc (take (2 * i) out) (a ∷ []) (b ∷ [])
           ∙ ap (λ t. t ++ a ∷ b ∷ []) before.done
-          ∙ ap (λ p. flat_map (pair_product f g) (range_with_len 0 i) ++ get_or p 0 0 ∷ get_or p 1 0 ∷ []) is
-          ∙ sym (flat_map-range_suc (pair_product f g) i);
+          ∙ ap (λ p. flat_map h (range_with_len 0 i) ++ get_or p 0 0 ∷ get_or p 1 0 ∷ []) is
+          ∙ ap (λ p. flat_map h (range_with_len 0 i) ++ p) (sym at)
+          ∙ sym (flat_map-range_suc h i);
     }
 
 -- at first no pair is there
-pub none_multiplied : (f g : List ℕ) → Multiplied f g 0 (replicate 256 0)
-none_multiplied f g = record { size = length-replicate {A = ℕ} 256 0; done = refl }
+pub none_paired : (h : ℕ → List ℕ) → Paired h 0 (replicate 256 0)
+none_paired h = record { size = length-replicate {A = ℕ} 256 0; done = refl }
 
 -- at last all pairs are there
-pub all_multiplied : (f g : List ℕ) (i : ℕ) (out : List ℕ) → 128 ≤ i → i ≤ 128 → Multiplied f g i out → out ≡ pair_products f g
-unfolding pair_products
-all_multiplied f g i out low high filled =
+pub all_paired : (h : ℕ → List ℕ) (i : ℕ) (out : List ℕ) → 128 ≤ i → i ≤ 128 → Paired h i out → out ≡ flat_map h (range_with_len 0 128)
+all_paired h i out low high filled =
     let full : i ≡ 128 = omega arith in
     let whole : length out ≡ 2 * i = omega (arith, filled.size) in
     sym (take-length out) ∙ ap (λ n. take n out) whole ∙ filled.done
-    ∙ ap (λ n. flat_map (pair_product f g) (range_with_len 0 n)) full
+    ∙ ap (λ n. flat_map h (range_with_len 0 n)) full
 
--- and each number is below 3329
-pub below_of_multiplied : (f g : List ℕ) (i : ℕ) (out : List ℕ) → 128 ≤ i → i ≤ 128 → Multiplied f g i out → All (λ x. x < 3329) out
+pub all_multiplied : (f g : List ℕ) (i : ℕ) (out : List ℕ) → 128 ≤ i → i ≤ 128 → Paired (pair_product f g) i out → out ≡ pair_products f g
 unfolding pair_products
-below_of_multiplied f g i out low high filled =
-    rw (all_multiplied f g i out low high filled) (All-pairs f g (range_with_len 0 128))
+all_multiplied f g i out low high filled = all_paired (pair_product f g) i out low high filled
+
+-- and each number is below 3329, where those of h are
+pub below_of_paired : (h : ℕ → List ℕ) (i : ℕ) (out : List ℕ) → ((k : ℕ) → All (λ x. x < 3329) (h k)) → 128 ≤ i → i ≤ 128 → Paired h i out → All (λ x. x < 3329) out
+below_of_paired h i out each low high filled =
+    rw (all_paired h i out low high filled) (All-pairs h (range_with_len 0 128) each)
+
+-- how many numbers the products have
+pub length-pair_products : (f g : List ℕ) → length (pair_products f g) ≡ 256
+unfolding pair_products
+length-pair_products f g = length-flat_map (pair_product f g) (range_with_len 0 128)

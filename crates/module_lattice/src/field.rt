@@ -162,7 +162,7 @@ impl Field for Field8380417 {
 }
 
 // One subtraction of `q` at most: of an `x` below `q` the difference wraps, and is the greater.
-fn small_reduce(x: u32, q: u32) -> u32
+pub(crate) fn small_reduce(x: u32, q: u32) -> u32
     ensures { result ≡ (if nat_lt x q then x else x - q) }
 {
     x.min(x.wrapping_sub(q))

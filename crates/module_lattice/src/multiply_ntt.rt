@@ -1,16 +1,19 @@
 //! Products in the transform domain.
 
-ghost use Rattle.std.specs.Prelude.{◌≡◌, ◌+◌, ◌*◌, ◌%◌, ◌<◌, ℕ, List, All};
+ghost use Rattle.std.specs.Prelude.{◌≡◌, ◌+◌, ◌*◌, ◌%◌, ◌<◌, ℕ, List, All, length};
 ghost use Rattle.module_lattice.specs.Ring.{IsPolynomial};
 ghost use Rattle.module_lattice.specs.Pairs.{gamma, pair_product};
+ghost use Rattle.module_lattice.specs.Vectors.{dot_product};
 
 use crate::coefficients::DEGREE;
 use crate::elem::Elem;
 use crate::field::{BaseField, Field};
 use crate::ntt_polynomial::NttPolynomial;
+use crate::product_sums::ProductSums;
 use std::ops::Mul;
 
-const PAIRS: usize = DEGREE / 2;
+/// How many pairs a polynomial has.
+pub(crate) const PAIRS: usize = DEGREE / 2;
 
 // g(i) = 17^(2·BitRev7(i) + 1) modulo 3329, at place i.
 const GAMMAS: [u32; PAIRS] = [
@@ -32,6 +35,18 @@ pub trait MultiplyNtt: Field {
     /// The product of two polynomials.
     fn multiply_ntt(lhs: &NttPolynomial<Self>, rhs: &NttPolynomial<Self>) -> NttPolynomial<Self>
         ensures { result ≡ product_of lhs.now rhs.now };
+
+    /// The sum of the products, item by item, of two lists of one length: zero for length 0.
+    fn dot(lhs: &[NttPolynomial<Self>], rhs: &[NttPolynomial<Self>]) -> NttPolynomial<Self>
+        requires { length rhs.now ≡ length lhs.now }
+        ensures { result ≡ dot_product Self.Q product_of lhs.now rhs.now }
+    {
+        let mut sum = NttPolynomial::default();
+        for i in 0..lhs.len() {
+            sum.add_assign(&Self::multiply_ntt(&lhs[i], &rhs[i]));
+        }
+        sum
+    }
 
     ghost product_is: { (f g : List ℕ) → IsPolynomial Self.Q f → IsPolynomial Self.Q g → IsPolynomial Self.Q (product_of f g) };
 }
@@ -57,6 +72,17 @@ impl MultiplyNtt for BaseField {
             out[2 * i + 1] = pair[1];
         }
         NttPolynomial::new(out)
+    }
+
+    fn dot(
+        lhs: &[NttPolynomial<BaseField>],
+        rhs: &[NttPolynomial<BaseField>],
+    ) -> NttPolynomial<BaseField> {
+        let mut sums = ProductSums::default();
+        for i in 0..lhs.len() {
+            sums.add_product(&lhs[i], &rhs[i]);
+        }
+        sums.reduce()
     }
 }
 
@@ -101,8 +127,8 @@ fn sum_of_products(
     Elem::new(BaseField::barrett_reduce(u64::from(first + second)))
 }
 
-// g(i): the product of pair `i` is modulo X^2 - g(i).
-fn gamma(i: usize) -> Elem<BaseField>
+/// g(i): the product of pair `i` is modulo X^2 - g(i).
+pub(crate) fn gamma(i: usize) -> Elem<BaseField>
     requires { i < 128 }
     ensures { result ≡ gamma i }
 {

@@ -99,11 +99,7 @@ impl<F: MultiplyNtt> NttVector<F> {
         requires { length rhs.now ≡ length self.now }
         ensures { result ≡ dot_product F.Q F.product_of self.now rhs.now }
     {
-        let mut sum = NttPolynomial::default();
-        for i in 0..self.len() {
-            sum.add_assign(&(&self.items[i] * &rhs.items[i]));
-        }
-        sum
+        F::dot(self.items.as_slice(), rhs.items.as_slice())
     }
 }
 

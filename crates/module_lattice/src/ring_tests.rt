@@ -5,8 +5,8 @@ ghost use Rattle.module_lattice.specs.Ring.{butterfly};
 
 use crate::tests::pairs;
 use crate::{
-    BaseField, Butterflies, Elem, Field, MaybeBox, MultiplyNtt, NttPolynomial, Polynomial, Steps,
-    Truncate,
+    BaseField, Butterflies, Elem, Field, MaybeBox, MultiplyNtt, NttPolynomial, Polynomial,
+    ProductSums, Steps, Truncate,
 };
 use std::marker::Brand;
 use std::sync::ledger::{Blank, Ledger};
@@ -29,6 +29,19 @@ fn square_of_x(rt: HostRuntime) {
     let square = &pairs(0, 1) * &pairs(0, 1);
     assert!(rt; square.coefficient(0).get() == 17 && square.coefficient(1).get() == 0);
     assert!(rt; square.coefficient(2).get() == 3312 && square.coefficient(254).get() == 1175);
+}
+
+// (-1 - X)^2 is 1 + g(i) + 2·X on pair i. So many of them pass 2^19·3329 in each sum.
+#[test]
+fn sums_of_many_products(rt: HostRuntime) {
+    let f = pairs(3328, 3328);
+    let mut sums = ProductSums::default();
+    for _ in 0..200 {
+        sums.add_product(&f, &f);
+    }
+    let sum = sums.reduce();
+    assert!(rt; sum.coefficient(0).get() == 271 && sum.coefficient(1).get() == 400);
+    assert!(rt; sum.coefficient(254).get() == 2170 && sum.coefficient(255).get() == 400);
 }
 
 // A butterfly at 0 and 128 of any values, counted by the counter that is handed in.
