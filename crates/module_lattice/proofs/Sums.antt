@@ -13,7 +13,7 @@ use Rattle.std.proofs.lemmas.List.Concat.{flat_map-cons}
 use Rattle.std.proofs.lemmas.List.Elements.{All-cons, All-nil, All-replicate, All-set}
 use Rattle.module_lattice.specs.Groups.{reduced_once}
 use Rattle.module_lattice.specs.Ring.{plus, sum}
-use Rattle.module_lattice.specs.Pairs.{gamma, pair_product, pair_products, reduced_pair, reduced_pairs, IsSums}
+use Rattle.module_lattice.specs.Pairs.{gamma, pair_products, reduced_pair, reduced_pairs, IsSums}
 use Rattle.module_lattice.specs.private.PairLaws.{mod-below}
 use Rattle.module_lattice.proofs.Places.{below_next}
 

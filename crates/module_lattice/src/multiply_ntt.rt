@@ -79,7 +79,7 @@ impl MultiplyNtt for BaseField {
         rhs: &[NttPolynomial<BaseField>],
     ) -> NttPolynomial<BaseField> {
         let mut sums = ProductSums::default();
-        for i in 0..lhs.len() {
+        for i in 0..rhs.len() {
             sums.add_product(&lhs[i], &rhs[i]);
         }
         sums.reduce()

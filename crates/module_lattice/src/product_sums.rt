@@ -1,6 +1,6 @@
 //! Sums of products in the transform domain of ML-KEM, which are reduced once at their end.
 
-ghost use Rattle.std.specs.Prelude.{◌≡◌, ◌+◌, ◌*◌, ◌%◌, ◌<◌, ◌≤◌, [], ◌∷◌, replicate};
+ghost use Rattle.std.specs.Prelude.{◌≡◌, ◌+◌, ◌*◌, ◌%◌, ◌<◌, [], ◌∷◌, replicate};
 ghost use Rattle.module_lattice.specs.Ring.{sum};
 ghost use Rattle.module_lattice.specs.Pairs.{gamma, pair_products, reduced_pairs, IsSums};
 

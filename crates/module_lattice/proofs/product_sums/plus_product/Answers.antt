@@ -1,4 +1,4 @@
-use Rattle.std.proofs.Common.{◌+◌, ◌*◌, refl}
+use Rattle.std.proofs.Common.{◌+◌, ◌*◌}
 use Rattle.module_lattice.proofs.Sums.{factors, folded}
 use Rattle.module_lattice.proofs.product_sums.plus_product.Goals as goal
 
