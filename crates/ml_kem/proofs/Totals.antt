@@ -49,14 +49,14 @@ column-at a i j row f within at_row at =
     ∙ ap (λ (r : List (List ℕ)). get_or r i []) (get_or_from_slice_get a j row [] at_row) ∙ get_or_from_slice_get row i f [] at
 
 -- one product more of a column
-pub column-more : (a : List (List (List ℕ))) (v : List (List ℕ)) (i j : ℕ) (row : List (List ℕ)) (f g before made after : List ℕ) → j < length a → length (column a i) ≡ length a
-    → length v ≡ length a → slice_get a j ≡ Some row → slice_get row i ≡ Some f → slice_get v j ≡ Some g → made ≡ pair_products f g
-    → before ≡ total 3329 (take j (zip2 pair_products (column a i) v)) → after ≡ sum 3329 before made
+pub column-more : (a : List (List (List ℕ))) (v : List (List ℕ)) (i j : ℕ) (row : List (List ℕ)) (f g before after : List ℕ) → j < length a → length (column a i) ≡ length a
+    → length v ≡ length a → slice_get a j ≡ Some row → slice_get row i ≡ Some f → slice_get v j ≡ Some g
+    → before ≡ total 3329 (take j (zip2 pair_products (column a i) v)) → after ≡ sum 3329 before (pair_products f g)
     → after ≡ total 3329 (take (j + 1) (zip2 pair_products (column a i) v))
-column-more a v i j row f g before made after within size long at_row at_f at_g is so_far step =
+column-more a v i j row f g before after within size long at_row at_f at_g so_far step =
     let u : List (List ℕ) = column a i in
     let done : List (List ℕ) = take j (zip2 pair_products u v) in
-    step ∙ ap₂ (sum 3329) so_far is ∙ total-push done (pair_products f g) (length-products f g)
+    step ∙ ap (λ b. sum 3329 b (pair_products f g)) so_far ∙ total-push done (pair_products f g) (length-products f g)
     ∙ ap (total 3329) (sym (take-zip2 pair_products u v j f g (omega arith) (omega arith) (column-at a i j row f within at_row at_f) (get_or_from_slice_get v j g g at_g)))
 
 -- all products of a column

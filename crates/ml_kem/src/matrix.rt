@@ -14,7 +14,7 @@ use crate::parameters::B32;
 use crate::sampling::{noise_polynomial, sample_ntt};
 use kem_hash::KemHash;
 use lattice_transform::ntt;
-use module_lattice::{BaseField, NttMatrix, NttPolynomial, NttVector};
+use module_lattice::{BaseField, NttMatrix, NttPolynomial, NttVector, ProductSums};
 use std::alloc::{AllocError, Global};
 
 /// The transforms of the matrix A of a seed, by its `k` rows of `k` polynomials.
@@ -68,11 +68,11 @@ pub(crate) fn column_dot(
     requires long { length v.now ≡ length a.now }
     ensures { result ≡ dot_product 3329 pair_products (column a.now i) v.now }
 {
-    let mut sum = NttPolynomial::default();
+    let mut sums = ProductSums::default();
     for j in 0..a.len() {
-        sum = &sum + &(a.item(j).item(i) * v.item(j));
+        sums.add_product(a.item(j).item(i), v.item(j));
     }
-    sum
+    sums.reduce()
 }
 
 /// The transforms of so many polynomials of the noise of a secret seed, from number `first` on, for an

@@ -6,4 +6,4 @@ use Rattle.ml_kem.specs.Matrix.{column}
 use Rattle.ml_kem.proofs.matrix.column_dot.Given as goal
 
 abbrev pub invariant-loop-j : goal.invariant-loop-j
-invariant-loop-j l = l.sum ≡ total 3329 (take l.j (zip2 pair_products (column l.a l.i) l.v))
+invariant-loop-j l = l.sums ≡ total 3329 (take l.j (zip2 pair_products (column l.a l.i) l.v))
