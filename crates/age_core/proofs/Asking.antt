@@ -11,7 +11,7 @@ use Rattle.rand_core.specs.Stream.{Stream}
 use Rattle.age_format.specs.declared.error.PhaseError.{PhaseError}
 use Rattle.age_format.specs.declared.error.PhaseError.TheVariants.{NoMemory, WriteFault, ReadFault, InvalidData, UnexpectedEof, TooMuch, UnexpectedReply}
 use Rattle.age_format.specs.declared.format.Stanza.{Stanza as Held-Stanza}
-use Rattle.age_format.specs.Outside.{Rose, Wrote, WrotePart}
+use Rattle.age_format.specs.Outside.{Rose, Wrote, WroteLess}
 use Rattle.age_format.specs.Stanza.{Stanza, IsStanza, IsFront, spelling}
 use Rattle.age_format.specs.Front.{IsMalformed}
 use Rattle.age_format.specs.Receiving.{Held, Took, Receives}
@@ -127,7 +127,7 @@ module _ {R W : Type 0} (left : R → Option (List ℕ)) (reads : R → ℕ) (go
       received = receives_both (held_by a) (held_by b) (held_by c) (left (source_of a)) (left (source_of b)) (left (source_of c)) ss us h.received k.received;
       between = k.between;
       wrote = wrote_then got faults plan (sink_of a) (sink_of b) k.between t v h.wrote k.wrote;
-      wrote_part = k.wrote_part;
+      wrote_less = k.wrote_less;
     }
 
     refused_after : reads (source_of b) ≡ reads (source_of a) → (taken : List ℕ) → Took (left (source_of a)) (left (source_of b)) taken
@@ -269,7 +269,7 @@ module _ {R W : Type 0} (left : R → Option (List ℕ)) (reads : R → ℕ) (go
 
   module _ (a b : Connection R W) (s : Stanza) (same : source_of b ≡ source_of a) (held : held_by b ≡ held_by a) where
     -- the sink failed in it
-    pub fails_alone : WrotePart got faults plan (sink_of a) (sink_of b) (spelling s) → FailsToSend left reads got faults plan a b (s ∷ []) []
+    pub fails_alone : WroteLess got faults plan (sink_of a) (sink_of b) (spelling s) → FailsToSend left reads got faults plan a b (s ∷ []) []
     fails_alone part = record {
       at = s;
       later = [];

@@ -6,7 +6,7 @@ use Rattle.std.proofs.lemmas.List.{append-nil}
 use Rattle.std.proofs.lemmas.List.Concat.{flat_map-append}
 use Rattle.age_format.specs.declared.error.PhaseError.{PhaseError}
 use Rattle.age_format.specs.declared.error.PhaseError.TheVariants.{NoMemory, WriteFault, ReadFault, InvalidData, UnexpectedEof, TooMuch, UnexpectedReply}
-use Rattle.age_format.specs.Outside.{Rose, Gains, Wrote, WrotePart}
+use Rattle.age_format.specs.Outside.{Rose, Gains, Wrote, WroteLess}
 use Rattle.age_format.specs.Stanza.{Stanza, IsFront}
 use Rattle.age_format.specs.Front.{IsMalformed}
 use Rattle.age_format.specs.Receiving.{Took, Receives}
@@ -76,8 +76,8 @@ module _ {R W : Type 0} (left : R → Option (List ℕ)) (reads : R → ℕ) (go
       }
 
       pub interrupted : (ss : List Stanza) (text more : List ℕ) → Exchanged left reads got faults plan first a ss text
-          → WrotePart got faults plan (sink_of a) (sink_of b) more → Interrupted left reads got faults plan first b ss text more
-      interrupted ss text more h k = record { received = rw (same, held) h.received; between = sink_of a; wrote = h.wrote; wrote_part = k }
+          → WroteLess got faults plan (sink_of a) (sink_of b) more → Interrupted left reads got faults plan first b ss text more
+      interrupted ss text more h k = record { received = rw (same, held) h.received; between = sink_of a; wrote = h.wrote; wrote_less = k }
 
       pub little_wrote : ReadLittle left reads got faults plan first a → ReadLittle left reads got faults plan first b
       little_wrote h = record { no_fault = ap reads same ∙ h.no_fault; little = rw (same, held) h.little }

@@ -5,7 +5,7 @@ use Rattle.std.specs.List.{flat_map}
 use Rattle.age_format.specs.declared.format.Stanza.{Stanza as Held-Stanza}
 use Rattle.age_format.specs.declared.error.PhaseError.{PhaseError}
 use Rattle.age_format.specs.declared.error.PhaseError.TheVariants.{NoMemory, WriteFault, ReadFault, InvalidData, UnexpectedEof, TooMuch, UnexpectedReply}
-use Rattle.age_format.specs.Outside.{Rose, Wrote, WrotePart}
+use Rattle.age_format.specs.Outside.{Rose, Wrote, WroteLess}
 use Rattle.age_format.specs.Stanza.{Stanza, IsFront, stanza_of, spelling}
 use Rattle.age_format.specs.Front.{IsMalformed}
 use Rattle.age_format.specs.Reading.{IsDone, NoneDone}
@@ -24,12 +24,12 @@ module _ {R W : Type 0} (left : R → Option (List ℕ)) (reads : R → ℕ) (go
     pub wrote : Wrote got faults plan (sink_of before) (sink_of now) text
 
   -- These stanzas were received, and the sink failed in the reply to the last of them: between, all of
-  -- the text was written, and then a part of that reply.
+  -- the text was written, and then a part of that reply, which isn't the whole.
   pub record Interrupted (stanzas : List Stanza) (text reply : List ℕ) : Type 0 where
     pub received : Receives (held_by before) (held_by now) (left (source_of before)) (left (source_of now)) stanzas
     pub between : W
     pub wrote : Wrote got faults plan (sink_of before) between text
-    pub wrote_part : WrotePart got faults plan between (sink_of now) reply
+    pub wrote_less : WroteLess got faults plan between (sink_of now) reply
 
   -- the source had no fault, and nothing was read, or at most 4095 bytes are held
   pub record ReadLittle : Type 0 where

@@ -4,7 +4,7 @@ use Rattle.std.specs.List.{flat_map, list_any, AllByRecursion}
 use Rattle.std.specs.Str.{bytes_eq}
 use Rattle.std.specs.String.{string_bytes}
 use Rattle.age_format.specs.declared.format.Stanza.{Stanza as Held-Stanza}
-use Rattle.age_format.specs.Outside.{Wrote, WrotePart}
+use Rattle.age_format.specs.Outside.{Wrote, WroteLess}
 use Rattle.age_format.specs.Stanza.{Stanza, IsStanza, IsArbitraryString, stanza_of, spelling}
 use Rattle.age_format.specs.Reading.{IsDone}
 use Rattle.age_core.specs.declared.plugin.bidir.Answer.{Answer}
@@ -37,10 +37,10 @@ IsAnswer (answer.Ok body) = Unit {0}
 IsAnswer (answer.OkWith metadata body) = AllByRecursion IsArbitraryString (map string_bytes metadata.items)
 IsAnswer answer.Fail = Unit {0}
 
--- a reply was written, or the sink failed and a part of it was
+-- a reply was written whole, or the sink failed, and a part of it, which isn't the whole, was written
 abbrev pub Responds : {W : Type 0} → (W → Option (List ℕ)) → (W → ℕ) → (W → List ℕ) → W → W → Bool → Stanza → Type 0
 Responds got faults plan before now response reply =
-    MatchBool response (Wrote got faults plan before now (spelling reply)) (WrotePart got faults plan before now (spelling reply))
+    MatchBool response (Wrote got faults plan before now (spelling reply)) (WroteLess got faults plan before now (spelling reply))
 
 -- ---- which stanzas are commands
 

@@ -11,3 +11,4 @@ pub mod Receipts
 pub mod Looks
 pub mod Dones
 pub mod Refusals
+pub mod Writing

@@ -1,5 +1,5 @@
 -- What a source and a sink of bytes mean, and when a fault may be answered.
-use Rattle.std.specs.Prelude.{◌≡◌, ℕ, ◌+◌, ◌<◌, ◌≤◌, min, Bool, List, [], ◌++◌, length, take, drop, Option, Some, IfSome, Result, MatchResult}
+use Rattle.std.specs.Prelude.{◌≡◌, ◌≢◌, ℕ, ◌+◌, ◌<◌, ◌≤◌, min, Bool, List, [], ◌++◌, length, take, drop, Option, Some, IfSome, Result, MatchResult}
 
 -- the last value of a count: it stands still there, at 2 ^ 64 - 1
 abbrev pub last_count : ℕ
@@ -33,6 +33,10 @@ Gains before now output = IfSome before (λ got. now ≡ Some (got ++ output))
 abbrev pub GainsPart : Option (List ℕ) → Option (List ℕ) → List ℕ → Type 0
 GainsPart before now output = IfSome before (λ got. (part : List ℕ) × (rest : List ℕ) × (output ≡ part ++ rest) × (now ≡ Some (got ++ part)))
 
+-- where a sink tells what it got, it didn't gain the whole output
+abbrev pub Lacks : Option (List ℕ) → Option (List ℕ) → List ℕ → Type 0
+Lacks before now output = IfSome before (λ got. now ≢ Some (got ++ output))
+
 -- To a sink, of which this is seen before and behind a call, exactly this output was written.
 pub record Wrote {W : Type 0} (got : W → Option (List ℕ)) (faults : W → ℕ) (plan : W → List ℕ) (before now : W) (output : List ℕ) : Type 0 where
   pub gained : Gains (got before) (got now) output
@@ -50,6 +54,16 @@ pub record WrotePart {W : Type 0} (got : W → Option (List ℕ)) (faults : W �
 abbrev pub Writes : {W A E : Type 0} → (W → Option (List ℕ)) → (W → ℕ) → (W → List ℕ) → W → W → Result A E → List ℕ → Type 0
 Writes got faults plan before now result output =
     MatchResult result (λ _. Wrote got faults plan before now output) (λ _. WrotePart got faults plan before now output)
+
+-- A fault of the sink came, and a part of the output was written, from its front, which isn't the whole.
+pub record WroteLess {W : Type 0} (got : W → Option (List ℕ)) (faults : W → ℕ) (plan : W → List ℕ) (before now : W) (output : List ℕ) : Type 0 where
+  pub part : WrotePart got faults plan before now output
+  pub lacks : Lacks (got before) (got now) output
+
+-- a call that writes the output, and fails exactly where it didn't write the whole
+abbrev pub WritesWhole : {W A E : Type 0} → (W → Option (List ℕ)) → (W → ℕ) → (W → List ℕ) → W → W → Result A E → List ℕ → Type 0
+WritesWhole got faults plan before now result output =
+    MatchResult result (λ _. Wrote got faults plan before now output) (λ _. WroteLess got faults plan before now output)
 
 -- a source over memory: the bytes that are left, the most that a read gives, the numbers of the
 -- reads that fail, and how many reads and faults there were

@@ -1,7 +1,7 @@
 //! Laws of the definitions, each as the contract of a function that does nothing.
 
 ghost use Rattle.std.specs.Prelude.{◌≡◌, ℕ, ◌+◌, ◌-◌, ◌^◌, ◌<◌, List, [], ◌∷◌, ◌++◌, ◌↔◌, length, codes, replicate, Option, Some};
-ghost use Rattle.age_format.specs.Outside.{last_count, Rose, GainsPart};
+ghost use Rattle.age_format.specs.Outside.{last_count, Rose, GainsPart, Lacks};
 ghost use Rattle.age_format.specs.Stanza.{Stanza, IsStanza, IsFront, IsVisible, alphabet, body_lines, spelling};
 ghost use Rattle.age_format.specs.Strings.{BeginsWithHeader};
 ghost use Rattle.age_format.specs.Front.{BeginsNone, IsFrontByCases, IsMalformed};
@@ -17,10 +17,13 @@ pub fn worked_counts()
     ensures before_last { Rose (last_count - 1) (last_count - 1) → ⊥ }
 {}
 
-/// A sink that holds `a` and gets a part of `bcd`: it holds `abc`, and not `ac`.
+/// A sink that holds `a` and gets a part of `bcd`: it holds `abc`, and not `ac`. It lacks some of `bcd` then,
+/// and none where it holds `abcd`.
 pub fn worked_parts()
     ensures part { GainsPart (Some (codes "a")) (Some (codes "abc")) (codes "bcd") }
     ensures no_part { GainsPart (Some (codes "a")) (Some (codes "ac")) (codes "bcd") → ⊥ }
+    ensures lacks { Lacks (Some (codes "a")) (Some (codes "abc")) (codes "bcd") }
+    ensures whole { Lacks (Some (codes "a")) (Some (codes "abcd")) (codes "bcd") → ⊥ }
 {}
 
 /// A tag and an argument may hold the bytes from 33 to 126.

@@ -4,7 +4,7 @@ mod memory;
 mod standard;
 
 ghost use Rattle.std.specs.Prelude.{◌≡◌, ◌≤◌, ◌<◌, ℕ, List, length, take, drop, Option, IfOk, OnErr, OnOk};
-ghost use Rattle.age_format.specs.Outside.{Rose, Gives, Gains, Writes};
+ghost use Rattle.age_format.specs.Outside.{Rose, Gives, Gains, Writes, WritesWhole};
 
 pub use memory::{CleanSource, MemSink, MemSource, NoSink};
 pub use standard::{StdSink, StdSource};
@@ -68,9 +68,10 @@ pub trait Sink {
         ensures faults { faults self.old ≤ faults self.new };
 }
 
-/// Writes all of the bytes. At `Failed` a part of them, from their front, was written.
-pub fn write_all<W: Sink>(sink: &mut W, bytes: &[u8]) -> Result<(), Failed>
-    ensures { Writes W.got W.faults W.plan sink.old sink.new result bytes.now }
+/// Writes all of the bytes, and fails exactly where it didn't: at `Failed` a part of them, from their front,
+/// was written, and not the whole.
+pub fn write_whole<W: Sink>(sink: &mut W, bytes: &[u8]) -> Result<(), Failed>
+    ensures { WritesWhole W.got W.faults W.plan sink.old sink.new result bytes.now }
 {
     let mut rest = bytes;
     while !rest.is_empty() {
@@ -78,4 +79,12 @@ pub fn write_all<W: Sink>(sink: &mut W, bytes: &[u8]) -> Result<(), Failed>
         rest = &rest[n..];
     }
     Ok(())
+}
+
+/// Writes all of the bytes, as [`write_whole`] does, and says less of a failure: at `Failed` a part of them,
+/// from their front, was written.
+pub fn write_all<W: Sink>(sink: &mut W, bytes: &[u8]) -> Result<(), Failed>
+    ensures { Writes W.got W.faults W.plan sink.old sink.new result bytes.now }
+{
+    write_whole(sink, bytes)
 }

@@ -4,12 +4,12 @@ use Rattle.std.specs.Prelude.{◌⊎◌, IfSome, IsOk, OnOk, OnErr}
 use Rattle.std.specs.List.{flat_map, AllByRecursion}
 use Rattle.std.proofs.lemmas.List.{append-nil}
 use Rattle.rand_core.specs.Stream.{Stream}
-use Rattle.age_format.specs.Outside.{Gains, GainsPart, Wrote, WrotePart, Writes}
+use Rattle.age_format.specs.Outside.{Gains, GainsPart, Wrote, WrotePart, WritesWhole}
 use Rattle.age_format.specs.Stanza.{Stanza, IsStanza, spelling}
 use Rattle.age_send.specs.Grease.{IsGrease}
 use Rattle.age_send.specs.Sending.{AfterGrease, FaultBehindFirst, FaultInFirst, SendFailed, Sent, first_roll, second_roll, rolled_text, sent_text, text_behind}
 use Rattle.age_send.specs.private.Rolling.{FaultInSecond, GreaseFailed, Greased, RollFailed, Rolled}
-use Rattle.age_send.proofs.Writing.{gains_behind, gains_front, part_front, part_last, wrote_then}
+use Rattle.age_format.proofs.Writing.{gains_behind, gains_front, part_front, part_last, wrote_then}
 use Rattle.age_send.proofs.Greases.{roll_is_grease}
 
 -- whatever a value is
@@ -29,13 +29,13 @@ part_on_err (Err d) (Ok x) fault h k e = absurd (cc h)
 part_on_err (Err d) (Err x) fault h k e = k
 
 module _ {W : Type 0} (got : W → Option (List ℕ)) (faults : W → ℕ) (plan : W → List ℕ) where
-  pub wrote_of : {B F : Type 0} (a b : W) (written : Result B F) (text : List ℕ) → Writes got faults plan a b written text → OnOk written (Wrote got faults plan a b text)
+  pub wrote_of : {B F : Type 0} (a b : W) (written : Result B F) (text : List ℕ) → WritesWhole got faults plan a b written text → OnOk written (Wrote got faults plan a b text)
   wrote_of a b (Ok x) text h = h
   wrote_of a b (Err e) text h = tt
 
-  pub part_of : {B F : Type 0} (a b : W) (written : Result B F) (text : List ℕ) → Writes got faults plan a b written text → OnErr written (WrotePart got faults plan a b text)
+  pub part_of : {B F : Type 0} (a b : W) (written : Result B F) (text : List ℕ) → WritesWhole got faults plan a b written text → OnErr written (WrotePart got faults plan a b text)
   part_of a b (Ok x) text h = tt
-  part_of a b (Err e) text h = h
+  part_of a b (Err e) text h = h.part
 
   -- ---- two rolls
 

@@ -3,12 +3,12 @@
 ghost use Rattle.std.specs.Prelude.{◌≡◌, ◌≤◌, ◌++◌, ◌∷◌, [], length, codes, map, OnOk};
 ghost use Rattle.std.specs.List.{flat_map, AllByRecursion};
 ghost use Rattle.std.specs.String.{string_bytes};
-ghost use Rattle.age_format.specs.Outside.{Writes};
+ghost use Rattle.age_format.specs.Outside.{WritesWhole};
 ghost use Rattle.age_format.specs.Stanza.{IsArbitraryString, IsBytes, base64, stanza_of, body_lines, spelling};
 ghost use Rattle.age_send.specs.Sending.{stanza_with, under_command};
 
 use age_format::format::Stanza;
-use age_format::outside::{Failed, Sink, write_all};
+use age_format::outside::{Failed, Sink, write_whole};
 use base64::engine::general_purpose::STANDARD_NO_PAD;
 use thiserror::Error;
 
@@ -31,23 +31,23 @@ impl From<Failed> for WriteFault {
 
 /// Writes the front of a stanza: `-> ` and its tag.
 fn write_tag<W: Sink>(sink: &mut W, tag: &str) -> Result<(), Failed>
-    ensures { Writes W.got W.faults W.plan sink.old sink.new result (codes "-> " ++ tag.now) }
+    ensures { WritesWhole W.got W.faults W.plan sink.old sink.new result (codes "-> " ++ tag.now) }
 {
-    write_all(sink, b"-> ")?;
-    write_all(sink, tag.as_bytes())
+    write_whole(sink, b"-> ")?;
+    write_whole(sink, tag.as_bytes())
 }
 
 /// Writes an argument, and the space before it.
 fn write_arg<W: Sink>(sink: &mut W, arg: &str) -> Result<(), Failed>
-    ensures { Writes W.got W.faults W.plan sink.old sink.new result (32 ∷ arg.now) }
+    ensures { WritesWhole W.got W.faults W.plan sink.old sink.new result (32 ∷ arg.now) }
 {
-    write_all(sink, b" ")?;
-    write_all(sink, arg.as_bytes())
+    write_whole(sink, b" ")?;
+    write_whole(sink, arg.as_bytes())
 }
 
 /// Writes arguments, each with a space before it.
 fn write_args<W: Sink>(sink: &mut W, args: &[String]) -> Result<(), Failed>
-    ensures { Writes W.got W.faults W.plan sink.old sink.new result (flat_map (λ arg. 32 ∷ arg) (map string_bytes args.now)) }
+    ensures { WritesWhole W.got W.faults W.plan sink.old sink.new result (flat_map (λ arg. 32 ∷ arg) (map string_bytes args.now)) }
 {
     for arg in args {
         write_arg(sink, arg.as_str())?;
@@ -59,19 +59,19 @@ fn write_args<W: Sink>(sink: &mut W, args: &[String]) -> Result<(), Failed>
 fn write_line<W: Sink>(sink: &mut W, bytes: &[u8], buffer: &mut [u8]) -> Result<(), Failed>
     requires few { length bytes.now ≤ 48 }
     requires room { length buffer.old ≡ 65 }
-    ensures { Writes W.got W.faults W.plan sink.old sink.new result (base64 bytes.now ++ 10 ∷ []) }
+    ensures { WritesWhole W.got W.faults W.plan sink.old sink.new result (base64 bytes.now ++ 10 ∷ []) }
 {
     let Ok(length) = STANDARD_NO_PAD.encode_slice(bytes, buffer) else {
         unreachable!();
     };
     buffer[length] = b'\n';
-    write_all(sink, &buffer[..length + 1])
+    write_whole(sink, &buffer[..length + 1])
 }
 
 /// Writes the lines of a body, by way of the buffer.
 fn write_lines<W: Sink>(sink: &mut W, body: &[u8], buffer: &mut [u8]) -> Result<(), Failed>
     requires { length buffer.old ≡ 65 }
-    ensures { Writes W.got W.faults W.plan sink.old sink.new result (body_lines body.now) }
+    ensures { WritesWhole W.got W.faults W.plan sink.old sink.new result (body_lines body.now) }
 {
     let mut rest = body;
     while rest.len() >= LINE_BYTES {
@@ -85,9 +85,9 @@ fn write_lines<W: Sink>(sink: &mut W, body: &[u8], buffer: &mut [u8]) -> Result<
 /// Ends the header line of a stanza, and writes its body.
 fn write_body<W: Sink>(sink: &mut W, body: &[u8]) -> Result<(), Failed>
     ensures bytes { IsBytes body.now }
-    ensures written { Writes W.got W.faults W.plan sink.old sink.new result (10 ∷ body_lines body.now) }
+    ensures written { WritesWhole W.got W.faults W.plan sink.old sink.new result (10 ∷ body_lines body.now) }
 {
-    write_all(sink, b"\n")?;
+    write_whole(sink, b"\n")?;
     let mut buffer = [0; LINE_LEN];
     write_lines(sink, body, &mut buffer)
 }
@@ -99,7 +99,7 @@ pub(crate) fn write_parts<W: Sink>(
     args: &[String],
     body: &[u8],
 ) -> Result<(), Failed>
-    ensures { Writes W.got W.faults W.plan sink.old sink.new result (spelling (stanza_with tag.now (map string_bytes args.now) body.now)) }
+    ensures { WritesWhole W.got W.faults W.plan sink.old sink.new result (spelling (stanza_with tag.now (map string_bytes args.now) body.now)) }
 {
     write_tag(sink, tag)?;
     write_args(sink, args)?;
@@ -108,7 +108,7 @@ pub(crate) fn write_parts<W: Sink>(
 
 /// Writes the arguments of a stanza under a command: metadata, its tag, and its arguments.
 fn write_metadata<W: Sink>(sink: &mut W, metadata: &[String], stanza: &Stanza) -> Result<(), Failed>
-    ensures { Writes W.got W.faults W.plan sink.old sink.new result
+    ensures { WritesWhole W.got W.faults W.plan sink.old sink.new result
         (flat_map (λ arg. 32 ∷ arg) (map string_bytes metadata.now ++ string_bytes stanza.now.tag ∷ map string_bytes stanza.now.args.items)) }
 {
     write_args(sink, metadata)?;
@@ -124,7 +124,7 @@ pub(crate) fn write_under_command<W: Sink>(
     stanza: &Stanza,
 ) -> Result<(), Failed>
     ensures bytes { OnOk result (IsBytes stanza.now.body.items) }
-    ensures written { Writes W.got W.faults W.plan sink.old sink.new result (spelling (under_command command.now (map string_bytes metadata.now) (stanza_of stanza.now))) }
+    ensures written { WritesWhole W.got W.faults W.plan sink.old sink.new result (spelling (under_command command.now (map string_bytes metadata.now) (stanza_of stanza.now))) }
 {
     write_tag(sink, command)?;
     write_metadata(sink, metadata, stanza)?;
@@ -134,7 +134,8 @@ pub(crate) fn write_under_command<W: Sink>(
 /// Writes a stanza: `-> `, the tag, each argument behind a space, a line feed, and the body in base64 in
 /// lines of 64 characters, of which the last has 0 to 63 (RFC 4648, section 4, without padding).
 ///
-/// It takes no memory. At `WriteFault` a part of the stanza, from its front, was written.
+/// It takes no memory. `WriteFault` comes exactly where it wasn't written whole: a part of it, from its front,
+/// was written, and not all of it.
 pub fn age_stanza<W: Sink>(
     sink: &mut W,
     tag: &str,
@@ -143,7 +144,7 @@ pub fn age_stanza<W: Sink>(
 ) -> Result<(), WriteFault>
     requires tag { IsArbitraryString tag.now }
     requires args { AllByRecursion IsArbitraryString (map string_bytes args.now) }
-    ensures { Writes W.got W.faults W.plan sink.old sink.new result (spelling (stanza_with tag.now (map string_bytes args.now) body.now)) }
+    ensures { WritesWhole W.got W.faults W.plan sink.old sink.new result (spelling (stanza_with tag.now (map string_bytes args.now) body.now)) }
 {
     Ok(write_parts(sink, tag, args, body)?)
 }
@@ -151,7 +152,8 @@ pub fn age_stanza<W: Sink>(
 /// Writes a stanza under a command, as [`age_stanza`] writes one: its tag is the command, and its arguments
 /// are the metadata, the stanza's tag and the stanza's arguments.
 ///
-/// It takes no memory. At `WriteFault` a part of it, from its front, was written.
+/// It takes no memory. `WriteFault` comes exactly where it wasn't written whole: a part of it, from its front,
+/// was written, and not all of it.
 pub fn age_stanza_under<W: Sink>(
     sink: &mut W,
     command: &str,
@@ -162,7 +164,7 @@ pub fn age_stanza_under<W: Sink>(
     requires metadata { AllByRecursion IsArbitraryString (map string_bytes metadata.now) }
     requires tag { IsArbitraryString (string_bytes stanza.now.tag) }
     requires args { AllByRecursion IsArbitraryString (map string_bytes stanza.now.args.items) }
-    ensures { Writes W.got W.faults W.plan sink.old sink.new result (spelling (under_command command.now (map string_bytes metadata.now) (stanza_of stanza.now))) }
+    ensures { WritesWhole W.got W.faults W.plan sink.old sink.new result (spelling (under_command command.now (map string_bytes metadata.now) (stanza_of stanza.now))) }
 {
     Ok(write_under_command(sink, command, metadata, stanza)?)
 }

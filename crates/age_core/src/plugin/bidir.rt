@@ -3,7 +3,7 @@
 ghost use Rattle.std.specs.Prelude.{◌≡◌, true, List, map, IfErr, OnOk};
 ghost use Rattle.std.specs.Fn.{CalledAt, TakesAt};
 ghost use Rattle.std.specs.String.{string_bytes};
-ghost use Rattle.age_format.specs.Outside.{Writes};
+ghost use Rattle.age_format.specs.Outside.{WritesWhole};
 ghost use Rattle.age_format.specs.Stanza.{stanza_of, spelling};
 ghost use Rattle.age_format.specs.Reading.{StandsBeforeDone};
 
@@ -39,7 +39,7 @@ impl<R: Source, W: Sink> Connection<R, W> {
     /// Writes the reply that is an answer.
     fn answer(&mut self, answer: Answer) -> Result<(), WriteFault>
         requires { IsAnswer answer }
-        ensures written { Writes W.got W.faults W.plan (sink_of self.old) (sink_of self.new) result (spelling (reply_of answer)) }
+        ensures written { WritesWhole W.got W.faults W.plan (sink_of self.old) (sink_of self.new) result (spelling (reply_of answer)) }
         ensures source { source_of self.new ≡ source_of self.old }
         ensures held { held_by self.new ≡ held_by self.old }
     {
@@ -61,7 +61,7 @@ impl<R: Source, W: Sink> Connection<R, W> {
     ) -> Result<(), WriteFault>
         requires { is_among (map string_bytes commands.now) (stanza_of stanza.now) ≡ true → MayAnswerAt (TakesAt F.FnMut) (CalledAt F.FnMut) handler.old stanza.now }
         ensures written { (reply : Stanza-spelled) × IsReply (CalledAt F.FnMut) (map string_bytes commands.now) handler.old stanza.now reply handler.new
-            × Writes W.got W.faults W.plan (sink_of self.old) (sink_of self.new) result (spelling reply) }
+            × WritesWhole W.got W.faults W.plan (sink_of self.old) (sink_of self.new) result (spelling reply) }
         ensures source { source_of self.new ≡ source_of self.old }
         ensures held { held_by self.new ≡ held_by self.old }
     {

@@ -4,7 +4,7 @@ ghost use Rattle.std.specs.Prelude.{◌≡◌, List, [], map, IfOk, IfErr, is_ok
 ghost use Rattle.std.specs.List.{AllByRecursion};
 ghost use Rattle.std.specs.Option.{option_copied, unwrap_or};
 ghost use Rattle.std.specs.String.{string_bytes};
-ghost use Rattle.age_format.specs.Outside.{Writes};
+ghost use Rattle.age_format.specs.Outside.{WritesWhole};
 ghost use Rattle.age_format.specs.Stanza.{IsArbitraryString, stanza_of, spelling};
 ghost use Rattle.age_send.specs.Sending.{stanza_with, under_command};
 ghost use Rattle.age_core.specs.Replies.{is_among};
@@ -73,8 +73,7 @@ impl Model for Response {
 }
 
 impl Response {
-    /// Whether every write of the reply succeeded, which wrote the whole of it; `WriteFault` comes where one
-    /// failed.
+    /// Whether the whole of the reply was written; `WriteFault` comes exactly where it wasn't.
     pub fn result(self) -> Result<(), WriteFault>
         ensures { is_ok result ≡ self }
     {
@@ -112,7 +111,7 @@ impl<R: Source, W: Sink> Connection<R, W> {
     ) -> Result<(), WriteFault>
         requires tag { IsArbitraryString tag.now }
         requires metadata { AllByRecursion IsArbitraryString (map string_bytes metadata.now) }
-        ensures written { Writes W.got W.faults W.plan (sink_of self.old) (sink_of self.new) result (spelling (stanza_with tag.now (map string_bytes metadata.now) body.now)) }
+        ensures written { WritesWhole W.got W.faults W.plan (sink_of self.old) (sink_of self.new) result (spelling (stanza_with tag.now (map string_bytes metadata.now) body.now)) }
         ensures source { source_of self.new ≡ source_of self.old }
         ensures held { held_by self.new ≡ held_by self.old }
     {
@@ -130,7 +129,7 @@ impl<R: Source, W: Sink> Connection<R, W> {
         requires metadata { AllByRecursion IsArbitraryString (map string_bytes metadata.now) }
         requires tag { IsArbitraryString (string_bytes stanza.now.tag) }
         requires args { AllByRecursion IsArbitraryString (map string_bytes stanza.now.args.items) }
-        ensures written { Writes W.got W.faults W.plan (sink_of self.old) (sink_of self.new) result (spelling (under_command command.now (map string_bytes metadata.now) (stanza_of stanza.now))) }
+        ensures written { WritesWhole W.got W.faults W.plan (sink_of self.old) (sink_of self.new) result (spelling (under_command command.now (map string_bytes metadata.now) (stanza_of stanza.now))) }
         ensures source { source_of self.new ≡ source_of self.old }
         ensures held { held_by self.new ≡ held_by self.old }
     {
@@ -139,7 +138,7 @@ impl<R: Source, W: Sink> Connection<R, W> {
 
     /// Writes the reply to a stanza that isn't known.
     pub(super) fn reply_unsupported(&mut self) -> Result<(), WriteFault>
-        ensures written { Writes W.got W.faults W.plan (sink_of self.old) (sink_of self.new) result (spelling unsupported_reply) }
+        ensures written { WritesWhole W.got W.faults W.plan (sink_of self.old) (sink_of self.new) result (spelling unsupported_reply) }
         ensures source { source_of self.new ≡ source_of self.old }
         ensures held { held_by self.new ≡ held_by self.old }
     {

@@ -1,4 +1,4 @@
-use Rattle.std.proofs.Common.{◌≡◌, sym, ap, ◌∙◌}
+use Rattle.std.proofs.Common.{sym, ap, ◌∙◌}
 use Rattle.age_format.specs.private.Parse.{with_body}
 use Rattle.age_format.proofs.Stanzas.{stanza_by_header}
 use Rattle.age_format.proofs.parse.stanza_at.Goals as goal

@@ -1,9 +1,9 @@
 use Rattle.std.proofs.Common.{[], ◌∷◌, ◌++◌, List, ℕ, take, drop, ap, subst, sym, ◌∙◌, append_assoc, refl, arith, rules}
 use Rattle.std.proofs.lemmas.Result.{err_from_is_err_and}
-use Rattle.age_format.specs.Outside.{WrotePart, Writes}
+use Rattle.age_format.specs.Outside.{WroteLess, WritesWhole}
 use Rattle.age_format.specs.Stanza.{base64, body_lines}
 use Rattle.age_send.proofs.Lines.{full_line, last_line}
-use Rattle.age_send.proofs.Writing.{part_then, wrote_nothing, wrote_then, writes_last}
+use Rattle.age_format.proofs.Writing.{less_then, wrote_nothing, wrote_then, whole_last}
 use Rattle.age_send.proofs.write.write_lines.Goals as goal
 
 pub loop-rest-init : goal.loop-rest-init
@@ -19,8 +19,8 @@ returns-in_err-write_line g c =
     let line = base64 (take 48 rest) ++ 10 ∷ [] in
     let p = err_from_is_err_and c.from_residual.result c.from_residual.ensures.1 in
     let full = full_line rest (omega arith) in
-    let part = part_then sink.got sink.faults sink.plan c.args.sink.now c.loop-rest.sink c.write_line.new.sink inv.0 line (body_lines (drop 48 rest)) inv.2 (rw c.split_at.ensures.front at c.in_err-write_line.ensures) in
-    rw p.1 (subst (WrotePart sink.got sink.faults sink.plan c.args.sink.now c.write_line.new.sink) (sym (inv.1 ∙ ap (λ (t : List ℕ). inv.0 ++ t) full)) part)
+    let part = less_then sink.got sink.faults sink.plan c.args.sink.now c.loop-rest.sink c.write_line.new.sink inv.0 line (body_lines (drop 48 rest)) inv.2 (rw c.split_at.ensures.front at c.in_err-write_line.ensures) in
+    rw p.1 (subst (WroteLess sink.got sink.faults sink.plan c.args.sink.now c.write_line.new.sink) (sym (inv.1 ∙ ap (λ (t : List ℕ). inv.0 ++ t) full)) part)
 
 pub loop-rest-preserved : goal.loop-rest-preserved
 loop-rest-preserved g c =
@@ -42,5 +42,5 @@ returns g c =
     let inv = c.loop-rest.invariant in
     let rest = c.loop-rest.rest.now in
     let whole = inv.1 ∙ ap (λ (t : List ℕ). inv.0 ++ t) (last_line rest (omega arith)) in
-    subst (λ (t : List ℕ). Writes sink.got sink.faults sink.plan c.args.sink.now c.write_line-2.new.sink c.write_line-2.result t) (sym whole)
-    (writes_last sink.got sink.faults sink.plan c.args.sink.now c.loop-rest.sink c.write_line-2.new.sink c.write_line-2.result inv.0 (base64 rest ++ 10 ∷ []) inv.2 c.write_line-2.ensures)
+    subst (λ (t : List ℕ). WritesWhole sink.got sink.faults sink.plan c.args.sink.now c.write_line-2.new.sink c.write_line-2.result t) (sym whole)
+    (whole_last sink.got sink.faults sink.plan c.args.sink.now c.loop-rest.sink c.write_line-2.new.sink c.write_line-2.result inv.0 (base64 rest ++ 10 ∷ []) inv.2 c.write_line-2.ensures)

@@ -1,5 +1,5 @@
-use Rattle.std.proofs.Common.{◌≡◌, ℕ, List, refl, sym, arith}
-use Rattle.age_format.specs.Stanza.{IsBytes, IsFront}
+use Rattle.std.proofs.Common.{refl, sym, arith}
+use Rattle.age_format.specs.Stanza.{IsBytes}
 use Rattle.age_format.specs.declared.format.read.ReadRefused.TheVariants.{NoMemory}
 use Rattle.age_format.proofs.Refusals.{err_as}
 use Rattle.age_format.proofs.Scans.{broken_no_front, whole_no_front}

@@ -1,4 +1,4 @@
-use Rattle.std.proofs.Common.{◌≡◌, ℕ, List, [], ◌++◌, refl, ap, sym, subst, ◌∙◌, inl, inr, arith}
+use Rattle.std.proofs.Common.{◌≡◌, ℕ, List, [], ◌++◌, refl, ap, sym, subst, ◌∙◌, inl, inr}
 use Rattle.age_format.specs.declared.error.PhaseError.TheVariants.{ReadFault}
 use Rattle.age_format.specs.Stanza.{IsFront, stanza_of}
 use Rattle.age_format.specs.Receiving.{Held}

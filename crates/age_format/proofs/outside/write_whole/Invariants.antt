@@ -1,6 +1,6 @@
-use Rattle.std.proofs.Common.{◌≡◌, ◌≤◌, ◌++◌, List, ℕ, length}
+use Rattle.std.proofs.Common.{◌≡◌, ◌++◌, List, ℕ, length}
 use Rattle.std.specs.Prelude.{IfSome, Some}
-use Rattle.age_format.proofs.outside.write_all.Given as goal
+use Rattle.age_format.proofs.outside.write_whole.Given as goal
 
 -- what was written so far is the front of the bytes, and the rest is left
 abbrev pub invariant-loop-rest : goal.invariant-loop-rest
