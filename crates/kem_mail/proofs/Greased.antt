@@ -55,7 +55,7 @@ other_part-grease : (ss : List Stanza) → AllByRecursion IsGrease ss → other_
 other_part-grease [] all = refl
 other_part-grease (s ∷ ss) all = other_part-hit s ss (grease_apart s all.0) ∙ ap (λ (t : List Stanza). s ∷ t) (other_part-grease ss all.1)
 
-both_all : (P : Stanza → Type 0) (xs ys : List Stanza) → AllByRecursion P xs → AllByRecursion P ys → AllByRecursion P (xs ++ ys)
+pub both_all : (P : Stanza → Type 0) (xs ys : List Stanza) → AllByRecursion P xs → AllByRecursion P ys → AllByRecursion P (xs ++ ys)
 both_all P [] ys h k = k
 both_all P (x ∷ xs) ys h k = (h.0, both_all P xs ys h.1 k)
 

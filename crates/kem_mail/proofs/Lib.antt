@@ -6,6 +6,7 @@ pub mod Keyed
 pub mod SenderTexts
 pub mod Honest
 pub mod Sends
+pub mod Wholes
 pub mod Sealed
 pub mod Greased
 pub mod SentMails

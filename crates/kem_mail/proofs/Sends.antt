@@ -58,7 +58,7 @@ module _ {W : Type 0} (got : W → Option (List ℕ)) (faults : W → ℕ) (plan
   pub wrote_nothing : (a : W) → Wrote got faults plan a a []
   wrote_nothing a = record { gained = gains_nothing (got a); no_fault = refl; same_plan = refl }
 
-  wrote_then : (a b c : W) (x y : List ℕ) → Wrote got faults plan a b x → Wrote got faults plan b c y → Wrote got faults plan a c (x ++ y)
+  pub wrote_then : (a b c : W) (x y : List ℕ) → Wrote got faults plan a b x → Wrote got faults plan b c y → Wrote got faults plan a c (x ++ y)
   wrote_then a b c x y h k = record {
     gained = gains_then (got a) (got b) (got c) x y h.gained k.gained;
     no_fault = k.no_fault ∙ h.no_fault;
@@ -83,7 +83,7 @@ module _ {W : Type 0} (got : W → Option (List ℕ)) (faults : W → ℕ) (plan
   sent_nothing a stream = record { wrote = wrote_nothing a; stands = refl; greased = tt }
 
   pub ran_out_nothing : (a : W) (ys : List Stanza) (stream : Stream) → RanOutAt got faults plan a a ys stream stream
-  unfolding stanzas_text behind_sends
+  unfolding stanzas_text behind_sends AllAfterGrease
   ran_out_nothing a ys stream = record {
     part = [];
     more = stanzas_text ys stream;
@@ -94,6 +94,7 @@ module _ {W : Type 0} (got : W → Option (List ℕ)) (faults : W → ℕ) (plan
     parts = refl;
     between = a;
     wrote_sent = wrote_nothing a;
+    greased = tt;
     stopped = inl (wrote_nothing a, refl);
   }
 
@@ -122,7 +123,7 @@ module _ {W : Type 0} (got : W → Option (List ℕ)) (faults : W → ℕ) (plan
 
   -- no memory for the grease of a send
   pub ran_out_one : (a b : W) (s : Stanza) (stream rest : Stream) → SendRanOut got faults plan a b stream rest → RanOutAt got faults plan a b (s ∷ []) stream rest
-  unfolding stanzas_text behind_sends sent_text
+  unfolding stanzas_text behind_sends AllAfterGrease sent_text
   ran_out_one a b s stream rest (inl h) = record {
     part = [];
     more = sent_text s stream ++ [];
@@ -133,6 +134,7 @@ module _ {W : Type 0} (got : W → Option (List ℕ)) (faults : W → ℕ) (plan
     parts = refl;
     between = a;
     wrote_sent = wrote_nothing a;
+    greased = tt;
     stopped = inr ((λ e. cc), inl h);
   }
   ran_out_one a b s stream rest (inr h) = record {
@@ -145,6 +147,7 @@ module _ {W : Type 0} (got : W → Option (List ℕ)) (faults : W → ℕ) (plan
     parts = refl;
     between = a;
     wrote_sent = wrote_nothing a;
+    greased = tt;
     stopped = inr ((λ e. cc), inr h);
   }
 
@@ -203,6 +206,7 @@ module _ {W : Type 0} (got : W → Option (List ℕ)) (faults : W → ℕ) (plan
           parts = ap (λ (t : List Stanza). xs ++ t) k.parts ∙ sym (append_assoc xs k.sent k.unsent);
           between = k.between;
           wrote_sent = subst (Wrote got faults plan a k.between) (sym (stanzas_text-append xs k.sent first)) (wrote_then a b k.between (stanzas_text xs first) (stanzas_text k.sent behind) h.wrote k.wrote_sent);
+          greased = AllAfterGrease-append xs k.sent first h.greased k.greased;
           stopped = subst (λ (s : Stream). (Wrote got faults plan k.between c [] × (rest ≡ s)) ⊎ ((k.unsent ≢ []) × SendRanOut got faults plan k.between c s rest)) (sym (behind_sends-append xs k.sent first)) k.stopped;
         }
 
@@ -242,6 +246,7 @@ module _ {W : Type 0} (got : W → Option (List ℕ)) (faults : W → ℕ) (plan
       parts = ap (λ (t : List Stanza). t ++ zs) k.parts ∙ append_assoc k.sent k.unsent zs;
       between = k.between;
       wrote_sent = k.wrote_sent;
+      greased = k.greased;
       stopped = elim k.stopped [ inl h ↦ inl h | inr h ↦ inr (more_unsent k.unsent h.0, h.1) ];
     }
 

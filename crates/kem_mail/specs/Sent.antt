@@ -1,8 +1,9 @@
 -- Stanzas that are sent in turn, and how a mail is sent.
 use Rattle.std.specs.Prelude.{◌≡◌, ◌≢◌, ◌⊎◌, ℕ, zero, suc, List, [], ◌∷◌, ◌++◌, length, Option, Some, None, Result, Ok, Err}
+use Rattle.std.specs.List.{flat_map, AllByRecursion}
 use Rattle.rand_core.specs.Stream.{Stream, fill_bytes}
 use Rattle.age_format.specs.Outside.{Wrote, WrotePart}
-use Rattle.age_format.specs.Stanza.{Stanza}
+use Rattle.age_format.specs.Stanza.{Stanza, IsStanza, spelling}
 use Rattle.age_send.specs.Sending.{AfterGrease, SendFailed, SendRanOut, second_roll, sent_text}
 use Rattle.kem_mail.specs.Sealing.{Sealer, first_unsealed, mail_stanzas}
 use Rattle.kem_mail.specs.declared.error.SealMailError.{SealMailError}
@@ -22,6 +23,12 @@ behind_sends (suc n) stream = behind_sends n (second_roll stream).1
 unfoldable pub AllAfterGrease : List Stanza → Stream → Type 0
 AllAfterGrease [] stream = Unit {0}
 AllAfterGrease (s ∷ ss) stream = AfterGrease (sent_text s stream) s × AllAfterGrease ss (second_roll stream).1
+
+-- a text is the spellings of stanzas, none or more
+pub record AreStanzas (text : List ℕ) : Type 0 where
+  pub stanzas : List Stanza
+  pub each : AllByRecursion IsStanza stanzas
+  pub spelled : text ≡ flat_map spelling stanzas
 
 module _ {W : Type 0} (got : W → Option (List ℕ)) (faults : W → ℕ) (plan : W → List ℕ) (before now : W) (stanzas : List Stanza) (stream rest : Stream) where
   -- all of the stanzas were sent
@@ -48,7 +55,8 @@ module _ {W : Type 0} (got : W → Option (List ℕ)) (faults : W → ℕ) (plan
       (Wrote got faults plan between now [] × (rest ≡ behind_sends (length sent) stream))
       ⊎ ((unsent ≢ []) × SendRanOut got faults plan between now (behind_sends (length sent) stream) rest)
 
-  -- no memory: exactly a part of the text was written, which is whole stanzas
+  -- no memory: exactly a part of the text was written, which is whole stanzas, and each send before was grease and
+  -- then its stanza
   pub record RanOutAt : Type 0 where
     pub part : List ℕ
     pub more : List ℕ
@@ -59,6 +67,7 @@ module _ {W : Type 0} (got : W → Option (List ℕ)) (faults : W → ℕ) (plan
     pub parts : stanzas ≡ sent ++ unsent
     pub between : W
     pub wrote_sent : Wrote got faults plan before between (stanzas_text sent stream)
+    pub greased : AllAfterGrease sent stream
     pub stopped : StopsBehind sent unsent between
 
 -- the text of a mail, by what is drawn: 32 bytes for the encapsulated key, and then the rolls of each send;

@@ -1,6 +1,6 @@
 //! Lists of byte strings: the messages of a mail.
 
-ghost use Rattle.std.specs.Prelude.{◌≡◌, ◌==◌, ◌∷◌, ◌++◌, [], length, map, slice_get, OnOk};
+ghost use Rattle.std.specs.Prelude.{◌≡◌, ◌==◌, ◌∷◌, ◌++◌, [], length, map, slice_get, OnErr, OnOk};
 ghost use Rattle.std.specs.Option.{option_copied};
 
 use std::alloc::{AllocError, Global};
@@ -30,9 +30,10 @@ impl MessageList {
         }
     }
 
-    // Puts a message behind the others.
+    // Puts a message behind the others. Where memory is refused the list stands as it was.
     pub(crate) fn push(&mut self, message: Vec<u8>) -> Result<(), AllocError>
         ensures pushed { OnOk result (self.new ≡ self.old ++ message.items ∷ []) }
+        ensures refused { OnErr result (self.new ≡ self.old) }
     {
         self.messages.push(message)?;
         Ok(())

@@ -8,10 +8,11 @@ ghost use Rattle.hpke.specs.Messages.{used};
 ghost use Rattle.hpke.specs.Schedule.{suite_of};
 ghost use Rattle.ml_kem.specs.Keys.{rho_part};
 ghost use Rattle.ml_kem.specs.Matrix.{matrix};
+ghost use Rattle.age_send.specs.Grease.{GivesBytes};
 ghost use Rattle.age_send.specs.Sending.{done};
 ghost use Rattle.kem_mail.specs.Sealing.{Sealer, key_stanza, lattice_sealer, message_stanza, seal_at, sealed, sealed_stanzas, sealer_of, unsealed};
 ghost use Rattle.kem_mail.specs.SenderText.{IsSenderText};
-ghost use Rattle.kem_mail.specs.Sent.{SealsMail, Untouched, mail_text};
+ghost use Rattle.kem_mail.specs.Sent.{AreStanzas, SealsMail, Untouched, mail_text};
 ghost use Rattle.kem_mail.specs.private.Causes.{of_send};
 ghost use Rattle.kem_mail.specs.private.Sends.{Sends};
 
@@ -209,6 +210,9 @@ pub fn seal_mail<P: ParameterSet, H: KemHash, D: Kdf, A: Aead, R: Rng, W: Sink>(
     // What was written is a sender's text, and its other stanzas are grease.
     ensures sender_text { let sealer : Sealer = lattice_sealer P.set H.family D.kdf A.aead A.AeadImpl.seal_of ek.now info.now in
         OnOk result (IsSenderText sealer messages.now (fill_bytes 32 (R.stream rng.old)).0 (mail_text sealer messages.now (R.stream rng.old))) }
+    // Where memory ran out, what was written is whole stanzas, if what the random source gives are bytes.
+    ensures memory { GivesBytes (R.stream rng.old) → result ≡ Err SealMailError.NoMemory
+        → (written : List ℕ) × AreStanzas written × Wrote W.got W.faults W.plan out.old out.new written }
 
     // The key alone decides whether there is a mail, and without one nothing is drawn or written.
     ensures has_key { result ≡ Err SealMailError.XofExhausted → matrix H.family P.set.k (rho_part P.set ek.now) ≡ None }
