@@ -3,10 +3,10 @@
 # write fails, and each moves one byte where it was to move more: one of them in each run, by its number from
 # 1 on, until a run meets none.
 #
-# A run that is refused memory ends with status 6 and no output, or by `seal` with a front of its output, or
-# as if nothing had been refused. One whose read fails ends with status 4 and no output, one whose write fails
-# with status 5 and a front of its output, and one of short reads and writes as if nothing had been short.
-# Each run has a line, with `other` where it ended in none of these ways; the last lines count them.
+# A run that is refused memory ends with status 6 and no output, or by `seal` with whole stanzas from the front of
+# its output, or as if nothing had been refused. One whose read fails ends with status 4 and no output, one whose
+# write fails with status 5 and a front of its output, and one of short reads and writes as if nothing had been
+# short. Each run has a line, with `other` where it ended in none of these ways; the last lines count them.
 #
 # Run it at the top of the repository, behind `rt run` in crates/fizlopek, with a folder for its files. It
 # wants Linux and a C compiler, for a library that stands in front of the C library:
@@ -122,11 +122,17 @@ is_front() {
     head -c "$(wc -c < "$1")" "$2" | cmp -s - "$1"
 }
 
+# Whether a front of a mail is whole stanzas: behind it another begins, or nothing stands.
+is_whole() {
+    rest=$(tail -c "+$(($(wc -c < "$1") + 1))" "$2" | head -c 3)
+    [ -z "$rest" ] || [ "$rest" = '-> ' ]
+}
+
 # How a run ended: $1 its words, $2 what was refused, $3 its status, $4 which call it was.
 ending() {
     if [ "$3" = "$(cat status)" ] && cmp -s output due; then
         echo unchanged
-    elif [ "$2$3" = memory6 ] && { [ ! -s output ] || { [ "${1%% *}" = seal ] && is_front output due; }; }; then
+    elif [ "$2$3" = memory6 ] && { [ ! -s output ] || { [ "${1%% *}" = seal ] && is_front output due && is_whole output due; }; }; then
         echo 6
     elif [ "$2$3$4" = io4read ] && [ ! -s output ]; then
         echo 4

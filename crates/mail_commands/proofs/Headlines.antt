@@ -5,7 +5,7 @@ use Rattle.kem_hash.specs.Family.{Family}
 use Rattle.age_format.specs.Outside.{Gains}
 use Rattle.mail_commands.specs.Command.{Spells}
 use Rattle.mail_commands.specs.Due.{Due, ComesTo, EndsWith, HoldsMail, IsAnswer, Outcome, items_output, outcome_output, outcome_status}
-use Rattle.mail_commands.specs.Lines.{lines}
+use Rattle.output_lines.specs.Lines.{lines}
 use Rattle.mail_commands.specs.declared.command.Command.{Command}
 use Rattle.mail_commands.specs.declared.command.Command.TheVariants.{Open}
 use Rattle.mail_commands.specs.declared.command.SuiteName.{SuiteName}

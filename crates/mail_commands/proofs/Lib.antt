@@ -1,4 +1,3 @@
-pub mod Writes
 pub mod Commands
 pub mod Inputs
 pub mod Joins
@@ -6,6 +5,7 @@ pub mod SealInputs
 pub mod SealKeys
 pub mod Runs
 pub mod Dues
+pub mod SourceBytes
 pub mod Sealings
 pub mod Generations
 pub mod Tellings

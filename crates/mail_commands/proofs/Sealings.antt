@@ -10,8 +10,9 @@ use Rattle.ml_kem.specs.Parameters.{Parameters}
 use Rattle.hpke.specs.Schedule.{KdfAlgorithm, AeadAlgorithm}
 use Rattle.age_format.specs.Outside.{Gains, GainsPart, Rose, Wrote, WrotePart}
 use Rattle.kem_mail.specs.Sealing.{SealMeaning, Sealer, first_unsealed, lattice_sealer, mail_stanzas}
-use Rattle.kem_mail.specs.Sent.{RanOutAt, SealsMail, Untouched}
+use Rattle.kem_mail.specs.Sent.{AreStanzas, RanOutAt, SealsMail, Untouched}
 use Rattle.kem_mail.specs.Taken.{Lost}
+use Rattle.kem_mail.proofs.Wholes.{ran_out_whole}
 use Rattle.generated_mail.specs.Made.{source_stream}
 use Rattle.kem_mail.specs.declared.error.MailError.TheVariants.{NoMemory, ReadFault, XofExhausted}
 use Rattle.kem_mail.specs.declared.error.SealMailError.{SealMailError}
@@ -31,7 +32,8 @@ use Rattle.mail_commands.specs.declared.sealing.SealFault.TheVariants.{InvalidKe
 use Rattle.mail_commands.proofs.Dues.{seals_end}
 use Rattle.mail_commands.proofs.Inputs.{Lost_weaker}
 use Rattle.mail_commands.proofs.Runs.{all_taken}
-use Rattle.mail_commands.proofs.Writes.{wrote_then}
+use Rattle.mail_commands.proofs.SourceBytes.{source_bytes}
+use Rattle.output_lines.proofs.Writes.{wrote_then}
 
 -- ---- what sealing comes to
 
@@ -76,7 +78,9 @@ module _ (set : Parameters) (family : Family) (kdf : KdfAlgorithm) (aead : AeadA
 
     ran_out : RanOutAt got faults plan before now (mail_stanzas sealer messages (fill_bytes 32 (source_stream source)).0) (fill_bytes 32 (source_stream source)).1 rest → FrontRan set family kdf aead meaning key info source messages got faults plan before now
     unfolding sealed_text
-    ran_out r = record { part = r.part; rest = r.more; whole = r.whole; wrote = r.wrote }
+    ran_out r =
+        let stopped = ran_out_whole got faults plan before now (mail_stanzas sealer messages (fill_bytes 32 (source_stream source)).0) (fill_bytes 32 (source_stream source)).1 rest (source_bytes source) r in
+        record { part = stopped.part; rest = stopped.more; whole = stopped.whole; are = stopped.are; wrote = stopped.wrote }
 
     pub mail_ran : {X : Type 0} (result : Result X SealMailError) → SealsMail got faults plan before now sealer messages (source_stream source) rest result
         → (result ≡ Err SealExhausted → matrix family set.k (rho_part set key) ≡ None) → (matrix family set.k (rho_part set key) ≡ None → (result ≡ Err SealExhausted) ⊎ (result ≡ Err SealNoMemory)) → Mailed result
@@ -191,8 +195,8 @@ module _ (family : Family) (suite : SuiteName) (left now : Option (List ℕ)) (f
       told = inl (inr (five, inl refl, subst (WrotePart got sink_faults plan before after) (sym (append-nil SealedText)) (subst (λ (w : W). WrotePart got sink_faults plan before w SealedText) (sym same) wrote)));
     }
 
-    halted_ran : Sealing (Ok (SealedText ∷ [])) → (part rest : List ℕ) → SealedText ≡ part ++ rest → Wrote got sink_faults plan before mid part → (result ≡ 6) → after ≡ mid → Run
-    halted_ran seals part rest whole_text wrote six same = record {
+    halted_ran : Sealing (Ok (SealedText ∷ [])) → (part rest : List ℕ) → SealedText ≡ part ++ rest → AreStanzas part → Wrote got sink_faults plan before mid part → (result ≡ 6) → after ≡ mid → Run
+    halted_ran seals part rest whole_text are wrote six same = record {
       outcome = Ok (SealedText ∷ []);
       came = came_ok SealedText seals;
       told = inr (record {
@@ -201,6 +205,7 @@ module _ (family : Family) (suite : SuiteName) (left now : Option (List ℕ)) (f
         part = part;
         rest = rest;
         whole = append-nil SealedText ∙ whole_text;
+        are = are;
         wrote = subst (λ (w : W). Wrote got sink_faults plan before w part) (sym same) wrote;
       });
     }
@@ -226,7 +231,7 @@ module _ (family : Family) (suite : SuiteName) (left now : Option (List ℕ)) (f
       told = inl (line_told 3 (error_line [] InvalidKey) wrote told);
     }
     seal_ran (Err (FaultMail SealNoMemory)) (inl wrote) (six, same) = memory_ran wrote six same
-    seal_ran (Err (FaultMail SealNoMemory)) (inr (is, has, front)) (six, same) = halted_ran (comes is has) front.part front.rest front.whole front.wrote six same
+    seal_ran (Err (FaultMail SealNoMemory)) (inr (is, has, front)) (six, same) = halted_ran (comes is has) front.part front.rest front.whole front.are front.wrote six same
     seal_ran (Err (FaultMail SealExhausted)) (is, (none, wrote)) told = record {
       outcome = Err (Mail XofExhausted);
       came = came_exhausted (comes_exhausted (parameters suite.set) family (kdf_algorithm suite.kdf) (aead_algorithm suite.aead) (aead_seal suite.aead) key info source messages is none);

@@ -6,7 +6,9 @@ use Rattle.age_format.specs.Outside.{Rose, Gains, GainsPart, Wrote, WrotePart}
 use Rattle.mail_commands.specs.Command.{Spells, input_word}
 use Rattle.mail_commands.specs.Due.{Due, IsAnswer, Outcome, outcome_output, outcome_status}
 use Rattle.mail_commands.specs.Lines.{error_line, no_command_line}
+use Rattle.kem_mail.specs.Sent.{AreStanzas}
 use Rattle.kem_mail.specs.Taken.{Lost}
+use Rattle.kem_mail.proofs.Wholes.{no_stanzas}
 use Rattle.mail_commands.specs.Taken.{Takes}
 use Rattle.mail_commands.specs.Run.{CameTo, IsHalted, IsTold, Tells}
 use Rattle.mail_commands.specs.declared.command.Command.{Command}
@@ -118,6 +120,16 @@ module _ {W : Type 0} (got : W → Option (List ℕ)) (faults : W → ℕ) (plan
   told_plan = elim told [
     | inr halted ↦ halted.wrote.same_plan
     | inl is ↦ elim is [ inl all ↦ all.1.same_plan | inr part ↦ part.2.same_plan ]
+  ]
+
+  -- whole stanzas, whatever was due
+  pub told_memory_whole : (status ≡ 6 → output ≡ []) → result ≡ 6 → (text : List ℕ) × AreStanzas text × Gains (got before) (got now) text
+  told_memory_whole silent six = elim told [
+    | inr halted ↦ (halted.part, halted.are, halted.wrote.gained)
+    | inl is ↦ elim is [
+      | inl all ↦ ([], no_stanzas, subst (Gains (got before) (got now)) (silent (sym all.0 ∙ six)) all.1.gained)
+      | inr part ↦ (let five = part.0 in absurd (omega (arith, six, five)))
+    ]
   ]
 
   module _ (family : Family) (words : List (List ℕ)) (left : Option (List ℕ)) (owed : IfSome left (λ text. IsAnswer status → Due family words text status output)) where

@@ -9,7 +9,8 @@ use Rattle.ml_kem.specs.Parameters.{Parameters}
 use Rattle.hpke.specs.Schedule.{KdfAlgorithm, AeadAlgorithm}
 use Rattle.mail_commands.specs.Command.{Spells, parameters, kdf_algorithm, aead_algorithm, aead_open, aead_seal, input_word}
 use Rattle.mail_commands.specs.Input.{IsHead, IsHeadText, IsLineText, IsSeedLine, IsSealInput, IsSealText, IsPart, FailsAt, EndsInside, StopsAt, seed_digits}
-use Rattle.mail_commands.specs.Lines.{lines, error_line, no_command_line}
+use Rattle.output_lines.specs.Lines.{lines}
+use Rattle.mail_commands.specs.Lines.{error_line, no_command_line}
 use Rattle.kem_mail.specs.Mail.{Verdict, OpensByKey}
 use Rattle.kem_mail.specs.Sealing.{SealMeaning, lattice_sealer}
 use Rattle.kem_mail.specs.Sent.{mail_text}

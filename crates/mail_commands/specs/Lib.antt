@@ -2,7 +2,7 @@
 pub mod Command
 -- the input of a command
 pub mod Input
--- the lines that a run writes
+-- the line of why a run wrote no items
 pub mod Lines
 -- what a command ends with, and what a run owes
 pub mod Due

@@ -1,22 +1,9 @@
--- The lines that a run writes.
-use Rattle.std.specs.Prelude.{ℕ, List, [], ◌∷◌, ◌++◌, codes, decimal}
-use Rattle.std.specs.List.{flat_map}
-use Rattle.hex.specs.Hex.{encode_lower}
+-- The line of why a run wrote no items.
+use Rattle.std.specs.Prelude.{ℕ, List, [], ◌∷◌, ◌++◌, codes}
+use Rattle.output_lines.specs.Lines.{fault_line}
 use Rattle.kem_mail.specs.declared.error.MailError.TheVariants.{NoMemory, XofExhausted, ReadFault, InvalidData, UnexpectedEof, TooMuch, NotOneKem, IncorrectInputLength, OpenError}
 use Rattle.mail_commands.specs.declared.error.RunError.{RunError}
 use Rattle.mail_commands.specs.declared.error.RunError.TheVariants.{Place, Ended, InvalidKey, Mail}
-
--- each item in lower-case hexadecimal digits, with a line feed
-abbrev pub lines : List (List ℕ) → List ℕ
-lines items = flat_map (λ item. encode_lower item ++ 10 ∷ []) items
-
--- the numbers of a fault in decimal, each behind a space
-abbrev pub spaced : List ℕ → List ℕ
-spaced numbers = flat_map (λ n. 32 ∷ decimal n) numbers
-
--- the line of a fault: `! `, its name, its numbers, and a line feed
-abbrev pub fault_line : List ℕ → List ℕ → List ℕ
-fault_line name numbers = codes "! " ++ (name ++ (spaced numbers ++ 10 ∷ []))
 
 -- the line of why a run wrote no items, by the word of its input; of want of memory and of a fault of the
 -- source there is none

@@ -4,6 +4,7 @@ use Rattle.kem_hash.specs.Family.{Family}
 use Rattle.age_format.specs.Outside.{Rose, Wrote, WrotePart}
 use Rattle.mail_commands.specs.Due.{EndsWith, IsAnswer, Outcome, of_verdict, outcome_output, outcome_status}
 use Rattle.kem_mail.specs.Mail.{Verdict}
+use Rattle.kem_mail.specs.Sent.{AreStanzas}
 use Rattle.kem_mail.specs.Taken.{Lost}
 use Rattle.generated_mail.specs.Told.{Generates}
 use Rattle.mail_commands.specs.Taken.{IsAtEnd, Takes}
@@ -18,13 +19,15 @@ abbrev pub IsTold : {W : Type 0} → (W → Option (List ℕ)) → (W → ℕ) �
 IsTold got faults plan before now result status output = ((result ≡ status) × Wrote got faults plan before now output)
     ⊎ ((result ≡ 5) × IsAnswer status × WrotePart got faults plan before now output)
 
--- Memory ran out for a run while it wrote: it told a part of an output that is owed, and its sink didn't fail.
+-- Memory ran out for a run while it wrote: it told a part of an output that is owed, which is whole stanzas, and its
+-- sink didn't fail.
 pub record IsHalted {W : Type 0} (got : W → Option (List ℕ)) (faults : W → ℕ) (plan : W → List ℕ) (before now : W) (result status : ℕ) (output : List ℕ) : Type 0 where
   pub result_is : result ≡ 6
   pub owed : IsAnswer status
   pub part : List ℕ
   pub rest : List ℕ
   pub whole : output ≡ part ++ rest
+  pub are : AreStanzas part
   pub wrote : Wrote got faults plan before now part
 
 -- what a run of a command answered and told; only `seal` writes before all is made

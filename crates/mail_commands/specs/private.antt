@@ -8,5 +8,5 @@ pub mod SealParts
 pub mod Opening
 -- the mail that `seal` writes, by the names of a suite
 pub mod Sealing
--- what is held for a sink, and what was told to one
+-- what an outcome is written as
 pub mod Telling

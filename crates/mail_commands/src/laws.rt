@@ -8,8 +8,10 @@ ghost use Rattle.age_format.specs.Outside.{Rose, Gains, GainsPart};
 ghost use Rattle.mail_commands.specs.Command.{Spells, words_of, greatest_budget, greatest_count};
 ghost use Rattle.mail_commands.specs.Due.{Due, HoldsMail, IsAnswer};
 ghost use Rattle.mail_commands.specs.Input.{IsHeadText, IsSealInput, seed_digits, most_info_digits, source_digits, most_message_digits, most_messages};
-ghost use Rattle.mail_commands.specs.Lines.{lines, error_line, no_command_line};
+ghost use Rattle.output_lines.specs.Lines.{lines};
+ghost use Rattle.mail_commands.specs.Lines.{error_line, no_command_line};
 ghost use Rattle.kem_mail.specs.Mail.{SameBodies};
+ghost use Rattle.kem_mail.specs.Sent.{AreStanzas};
 ghost use Rattle.kem_mail.specs.Taken.{Lost};
 ghost use Rattle.mail_commands.specs.Taken.{Takes};
 
@@ -132,9 +134,10 @@ pub fn headline<H: KemHash, S: Source, W: Sink>(
     ensures write_part { IfSome (S.left src.old) (λ text. result ≡ 5 → (status : ℕ) × (output : List ℕ)
         × Due H.family (map string_bytes words.now) text status output × GainsPart (W.got out.old) (W.got out.new) output) }
 
-    // Nothing was written; `seal` alone may have written a part of what is due.
+    // Nothing was written; `seal` alone may have written a part of what is due, which is whole stanzas.
     ensures memory { result ≡ 6 → ((suite : SuiteName) → Spells (map string_bytes words.now) (Command.Seal suite) → ⊥)
         → Gains (W.got out.old) (W.got out.new) [] }
+    ensures memory_whole { result ≡ 6 → (written : List ℕ) × AreStanzas written × Gains (W.got out.old) (W.got out.new) written }
     ensures no_other { IsAnswer result ⊎ ((result ≡ 4) ⊎ ((result ≡ 5) ⊎ (result ≡ 6))) }
     ensures complete { (suite : SuiteName) (budget : ℕ) → Spells (map string_bytes words.now) (Command.Open suite budget)
         → IfSome (S.left src.old) (λ text. (messages : List (List ℕ)) → HoldsMail H.family suite budget text messages

@@ -6,8 +6,6 @@ mod error;
 mod input;
 pub mod laws;
 mod lines;
-mod list;
-mod pending;
 mod run;
 mod seal_input;
 mod sealing;

@@ -6,8 +6,9 @@ ghost use Rattle.age_format.specs.Outside.{Rose, Gains, GainsPart};
 ghost use Rattle.ml_kem.specs.Keys.{key_of};
 ghost use Rattle.mail_commands.specs.Command.{IsCommand, Spells, greatest_count, parameters, kdf_algorithm, aead_algorithm, aead_open, input_word};
 ghost use Rattle.mail_commands.specs.Due.{Due, IsAnswer, key_verdict, outcome_status};
-ghost use Rattle.mail_commands.specs.Lines.{lines, error_line, no_command_line};
+ghost use Rattle.mail_commands.specs.Lines.{error_line, no_command_line};
 ghost use Rattle.kem_mail.specs.Mail.{Verdict};
+ghost use Rattle.kem_mail.specs.Sent.{AreStanzas};
 ghost use Rattle.kem_mail.specs.Taken.{Lost};
 ghost use Rattle.generated_mail.specs.Told.{summary_lines};
 ghost use Rattle.mail_commands.specs.Taken.{MostTakes, Takes};
@@ -20,8 +21,7 @@ ghost use Rattle.mail_commands.specs.private.Telling.{lines_output};
 use crate::command::{AeadName, Command, KdfName, SetName, SuiteName, command_of};
 use crate::error::RunError;
 use crate::input::{Head, next_head, next_seed};
-use crate::lines::{write_error, write_fault_line, write_lines};
-use crate::list::ItemList;
+use crate::lines::write_error;
 use crate::seal_input::next_seal_input;
 use crate::sealing::{SealFault, key_size, seal_suite};
 use age_format::outside::{Failed, Sink, Source};
@@ -30,6 +30,7 @@ use hpke::{AesGcm128, AesGcm256, HkdfSha256, HkdfSha384, HkdfSha512, Kdf};
 use kem_hash::KemHash;
 use kem_mail::{MailError, MessageList, SealMailError, open_mail};
 use ml_kem::{DecapsulationKey, MlKem512, MlKem768, MlKem1024, ParameterSet, Seed};
+use output_lines::{ItemList, write_fault_line, write_lines};
 use std::alloc::Global;
 
 // The status of a run that did what its command says.
@@ -144,7 +145,7 @@ fn opened_items<H: KemHash, S: Source>(
 {
     let head = next_head(alloc, src)?;
     let messages = open_suite::<H, S>(alloc, suite, &head, src, budget)?;
-    Ok(ItemList::from_messages(messages))
+    Ok(ItemList::from_vecs(messages.into_vecs()))
 }
 
 // What `key` ends with: the encapsulation key, or why there is none.
@@ -311,8 +312,8 @@ fn tell_no_command<W: Sink>(out: &mut W) -> u8
 /// the mail is at fault, and the line of the fault was written: `! head PLACE` for the byte at a place, from
 /// 0, that can't stand there, `! head ended`, of `seal` `! input PLACE`, `! input ended` and `! InvalidKey`, or
 /// the name of a [`MailError`] with its numbers. 4: the source failed, and nothing was written. 5: the sink
-/// failed, and a front of what is due was written. 6: memory ran out, and nothing was written, or by `seal` a
-/// front of what is due.
+/// failed, and a front of what is due was written. 6: memory ran out, and nothing was written, or by `seal` whole
+/// stanzas, a front of what is due.
 pub fn mail_main<H: KemHash, S: Source, W: Sink>(
     alloc: Global,
     words: &[String],
@@ -337,11 +338,12 @@ pub fn mail_main<H: KemHash, S: Source, W: Sink>(
     ensures write_part { IfSome (S.left src.old) (λ text. result ≡ 5 → (status : ℕ) × (output : List ℕ)
         × Due H.family (map string_bytes words.now) text status output × GainsPart (W.got out.old) (W.got out.new) output) }
 
-    // Want of memory, and nothing written; by `seal` a front of what is due.
+    // Want of memory, and nothing written; by `seal` a front of what is due, which is whole stanzas.
     ensures memory { result ≡ 6 → ((suite : SuiteName) → Spells (map string_bytes words.now) (Command.Seal suite) → ⊥)
         → Gains (W.got out.old) (W.got out.new) [] }
     ensures memory_part { IfSome (S.left src.old) (λ text. result ≡ 6 → Gains (W.got out.old) (W.got out.new) []
         ⊎ ((status : ℕ) × (output : List ℕ) × Due H.family (map string_bytes words.now) text status output × GainsPart (W.got out.old) (W.got out.new) output)) }
+    ensures memory_whole { result ≡ 6 → (written : List ℕ) × AreStanzas written × Gains (W.got out.old) (W.got out.new) written }
 
     // The words alone decide on status 2 and its line, whatever the source tells, and then nothing is read.
     ensures command { result ≡ 2 → (command : Command) → Spells (map string_bytes words.now) command → ⊥ }

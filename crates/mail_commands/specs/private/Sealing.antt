@@ -7,7 +7,7 @@ use Rattle.ml_kem.specs.Parameters.{Parameters}
 use Rattle.hpke.specs.Schedule.{KdfAlgorithm, AeadAlgorithm}
 use Rattle.age_format.specs.Outside.{Wrote, WrotePart}
 use Rattle.kem_mail.specs.Sealing.{SealMeaning, lattice_sealer}
-use Rattle.kem_mail.specs.Sent.{mail_text}
+use Rattle.kem_mail.specs.Sent.{AreStanzas, mail_text}
 use Rattle.generated_mail.specs.Made.{source_stream}
 use Rattle.kem_mail.specs.declared.error.MailError.TheVariants.{XofExhausted as MailExhausted}
 use Rattle.kem_mail.specs.declared.error.SealMailError.{SealMailError}
@@ -28,11 +28,12 @@ module _ (set : Parameters) (family : Family) (kdf : KdfAlgorithm) (aead : AeadA
   HasMatrix = matrix family set.k (rho_part set key) ≢ None
 
   module _ {W : Type 0} (got : W → Option (List ℕ)) (faults : W → ℕ) (plan : W → List ℕ) (before now : W) where
-    -- a front of the text was written
+    -- a front of the text was written, which is whole stanzas
     pub record FrontRan : Type 0 where
       pub part : List ℕ
       pub rest : List ℕ
       pub whole : sealed_text ≡ part ++ rest
+      pub are : AreStanzas part
       pub wrote : Wrote got faults plan before now part
 
     -- how sealing to a key ended

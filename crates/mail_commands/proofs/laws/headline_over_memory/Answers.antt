@@ -1,6 +1,6 @@
 use Rattle.std.proofs.Common.{rules, ◌≡◌, true, Some, map, arith}
 use Rattle.std.specs.String.{string_bytes}
-use Rattle.mail_commands.specs.Lines.{lines}
+use Rattle.output_lines.specs.Lines.{lines}
 use Rattle.mail_commands.specs.declared.command.Command.TheVariants.{Open}
 use Rattle.mail_commands.proofs.Headlines.{gained, statuses_left, three_no_mail, zero_messages}
 use Rattle.mail_commands.proofs.laws.headline_over_memory.Goals as goal

@@ -11,7 +11,7 @@ use Rattle.mail_commands.proofs.Dues.{one_command}
 use Rattle.mail_commands.specs.declared.command.Command.TheVariants.{Gen}
 use Rattle.mail_commands.proofs.Runs.{gen_status, lost_most}
 use Rattle.mail_commands.proofs.Tellings.{command_kind, command_owed, fault_told, memory, never_five, no_command_owed, no_other, no_read_fault, not_two, read_fault, read_part, silent_memory}
-use Rattle.mail_commands.proofs.Tellings.{tells_told, told_all, told_answered, told_complete, told_counts, told_fault, told_memory_part, told_no_fault, told_plan, told_status, told_write_part}
+use Rattle.mail_commands.proofs.Tellings.{tells_told, told_all, told_answered, told_complete, told_counts, told_fault, told_memory_part, told_memory_whole, told_no_fault, told_plan, told_status, told_write_part}
 use Rattle.mail_commands.proofs.run.mail_main.Goals as goal
 
 pub returns-in_default-clause-answered : goal.returns-in_default-clause-answered
@@ -61,6 +61,11 @@ returns-in_default-clause-memory_part g c =
     let sink = g.W.Sink in
     let source = g.S.Source in
     told_memory_part sink.got sink.faults sink.plan c.args.out.now c.tell_no_command.new.out c.tell_no_command.result 2 no_command_line (inl c.tell_no_command.ensures) g.H.KemHash.family (map string_bytes c.args.words.now) (source.left c.args.src.now) (no_command_owed g.H.KemHash.family (map string_bytes c.args.words.now) (source.left c.args.src.now) c.in_default.ensures.none) (λ e. absurd (cc e))
+
+pub returns-in_default-clause-memory_whole : goal.returns-in_default-clause-memory_whole
+returns-in_default-clause-memory_whole g c =
+    let sink = g.W.Sink in
+    told_memory_whole sink.got sink.faults sink.plan c.args.out.now c.tell_no_command.new.out c.tell_no_command.result 2 no_command_line (inl c.tell_no_command.ensures) (λ e. absurd (cc e))
 
 pub returns-in_default-clause-no_command : goal.returns-in_default-clause-no_command
 returns-in_default-clause-no_command g c =
@@ -156,6 +161,14 @@ returns-clause-memory_part g c =
     let source = g.S.Source in
     told_memory_part sink.got sink.faults sink.plan c.args.out.now c.run_command.new.out c.run_command.result (outcome_status c.run_command.ensures.ran.outcome) (outcome_output c.in-Some.command c.run_command.ensures.ran.outcome) (tells_told c.in-Some.command sink.got sink.faults sink.plan c.args.out.now c.run_command.new.out c.run_command.result (outcome_status c.run_command.ensures.ran.outcome) (outcome_output c.in-Some.command c.run_command.ensures.ran.outcome) c.run_command.ensures.ran.told) g.H.KemHash.family (map string_bytes c.args.words.now) (source.left c.args.src.now) (command_owed g.H.KemHash.family (map string_bytes c.args.words.now) (source.left c.args.src.now) (source.left c.run_command.new.src) (source.faults c.args.src.now) (source.faults c.run_command.new.src)
     c.in-Some.command c.in-Some.ensures.found c.run_command.ensures.ran.outcome c.run_command.ensures.ran.came) (silent_memory g.H.KemHash.family (map string_bytes c.args.words.now) (source.left c.args.src.now) (source.left c.run_command.new.src) (source.faults c.args.src.now) (source.faults c.run_command.new.src)
+    c.in-Some.command c.in-Some.ensures.found c.run_command.ensures.ran.outcome c.run_command.ensures.ran.came)
+
+pub returns-clause-memory_whole : goal.returns-clause-memory_whole
+returns-clause-memory_whole g c =
+    let sink = g.W.Sink in
+    let source = g.S.Source in
+    told_memory_whole sink.got sink.faults sink.plan c.args.out.now c.run_command.new.out c.run_command.result (outcome_status c.run_command.ensures.ran.outcome) (outcome_output c.in-Some.command c.run_command.ensures.ran.outcome) (tells_told c.in-Some.command sink.got sink.faults sink.plan c.args.out.now c.run_command.new.out c.run_command.result (outcome_status c.run_command.ensures.ran.outcome) (outcome_output c.in-Some.command c.run_command.ensures.ran.outcome) c.run_command.ensures.ran.told)
+    (silent_memory g.H.KemHash.family (map string_bytes c.args.words.now) (source.left c.args.src.now) (source.left c.run_command.new.src) (source.faults c.args.src.now) (source.faults c.run_command.new.src)
     c.in-Some.command c.in-Some.ensures.found c.run_command.ensures.ran.outcome c.run_command.ensures.ran.came)
 
 pub returns-clause-command : goal.returns-clause-command

@@ -1,4 +1,4 @@
-use Rattle.std.proofs.Common.{Err, Ok, ap}
+use Rattle.std.proofs.Common.{Err, Ok, ap, ◌∙◌}
 use Rattle.std.proofs.lemmas.Result.{err_from_is_err_and}
 use Rattle.mail_commands.specs.declared.command.Command.TheVariants.{Open}
 use Rattle.mail_commands.proofs.Runs.{came_refused, came_open}
@@ -26,6 +26,6 @@ returns-clause-came g c =
     let source = g.S.Source in
     let head = c.in_ok-head in
     let messages = c.in_ok-messages in
-    rw (c.from_messages.ensures) (came_open g.H.KemHash.family c.args.suite c.args.budget (source.left c.args.src.now) (source.left c.next_head.new.src) (source.left c.open_suite.new.src)
+    rw (c.from_vecs.ensures ∙ c.into_vecs.ensures) (came_open g.H.KemHash.family c.args.suite c.args.budget (source.left c.args.src.now) (source.left c.next_head.new.src) (source.left c.open_suite.new.src)
     (source.faults c.args.src.now) (source.faults c.next_head.new.src) (source.faults c.open_suite.new.src) head.head.seed head.head.info.items (Ok messages.messages)
     head.ensures.taken (head.ensures.no_fault (λ e. cc e)) messages.ensures.opened)

@@ -1,13 +1,12 @@
-//! The items that a command writes.
+//! The items that a run writes.
 
-ghost use Rattle.std.specs.Prelude.{◌≡◌, ◌∷◌, ◌++◌, [], length, slice_get, OnOk};
+ghost use Rattle.std.specs.Prelude.{◌≡◌, ◌∷◌, ◌++◌, [], length, slice_get, OnErr, OnOk, map};
 ghost use Rattle.std.specs.Option.{option_copied};
 
-use kem_mail::MessageList;
 use std::alloc::{AllocError, Global};
 use std::marker::Model;
 
-/// What a command writes, item by item.
+/// What a run writes, item by item.
 #[derive(Drop)]
 pub struct ItemList {
     items: Vec<Vec<u8>>,
@@ -22,7 +21,7 @@ impl Model for ItemList {
 }
 
 impl ItemList {
-    // A list of no items. It takes no memory.
+    /// A list of no items. It takes no memory.
     pub fn new(alloc: Global) -> ItemList
         ensures { result ≡ [] }
     {
@@ -31,31 +30,30 @@ impl ItemList {
         }
     }
 
-    // The messages of a mail as items. It takes no memory.
-    pub fn from_messages(messages: MessageList) -> ItemList
-        ensures { result ≡ messages }
+    /// The items of a list. It takes no memory.
+    pub fn from_vecs(items: Vec<Vec<u8>>) -> ItemList
+        ensures { result ≡ map (λ item. item.items) items.items }
     {
-        ItemList {
-            items: messages.into_vecs(),
-        }
+        ItemList { items }
     }
 
-    // Puts an item behind the others.
+    /// Puts an item behind the others. Where memory is refused the list stands as it was.
     pub fn push(&mut self, item: Vec<u8>) -> Result<(), AllocError>
         ensures pushed { OnOk result (self.new ≡ self.old ++ item.items ∷ []) }
+        ensures refused { OnErr result (self.new ≡ self.old) }
     {
         self.items.push(item)?;
         Ok(())
     }
 
-    // How many items there are.
+    /// How many items there are.
     pub fn len(&self) -> usize
         ensures { result ≡ length self.now }
     {
         self.items.len()
     }
 
-    // The item at a place from 0, or none where the place is the length or more.
+    /// The item at a place from 0, or none where the place is the length or more.
     pub fn get(&self, i: usize) -> Option<&[u8]>
         ensures { option_copied result ≡ slice_get self.now i }
     {

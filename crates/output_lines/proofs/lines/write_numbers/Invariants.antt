@@ -1,7 +1,7 @@
 use Rattle.std.proofs.Common.{take}
 use Rattle.age_format.specs.Outside.{Wrote}
-use Rattle.mail_commands.specs.Lines.{spaced}
-use Rattle.mail_commands.proofs.lines.write_numbers.Given as goal
+use Rattle.output_lines.specs.Lines.{spaced}
+use Rattle.output_lines.proofs.lines.write_numbers.Given as goal
 
 -- the numbers so far were written
 abbrev pub invariant-loop-number : goal.invariant-loop-number

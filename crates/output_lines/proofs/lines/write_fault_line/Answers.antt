@@ -1,9 +1,9 @@
 use Rattle.std.proofs.Common.{◌∷◌, [], ℕ, List, ◌++◌, subst, append_assoc}
 use Rattle.std.proofs.lemmas.Result.{err_from_is_err_and}
 use Rattle.age_format.specs.Outside.{Writes}
-use Rattle.mail_commands.specs.Lines.{spaced}
-use Rattle.mail_commands.proofs.Writes.{wrote_then, part_front, part_then, writes_last}
-use Rattle.mail_commands.proofs.lines.write_fault_line.Goals as goal
+use Rattle.output_lines.specs.Lines.{spaced}
+use Rattle.output_lines.proofs.Writes.{wrote_then, part_front, part_then, writes_last}
+use Rattle.output_lines.proofs.lines.write_fault_line.Goals as goal
 
 pub returns-in_err-write_all : goal.returns-in_err-write_all
 returns-in_err-write_all g c =

@@ -2,9 +2,9 @@ use Rattle.std.proofs.Common.{◌∷◌, ◌+◌, take, drop, get_or, sym, subst
 use Rattle.std.specs.Prelude.{decimal}
 use Rattle.std.proofs.lemmas.Result.{err_from_is_err_and}
 use Rattle.age_format.specs.Outside.{Wrote, WrotePart}
-use Rattle.mail_commands.specs.Lines.{spaced}
-use Rattle.mail_commands.proofs.Writes.{wrote_nothing, wrote_then, part_then, spaced_split, spaced_more}
-use Rattle.mail_commands.proofs.lines.write_numbers.Goals as goal
+use Rattle.output_lines.specs.Lines.{spaced}
+use Rattle.output_lines.proofs.Writes.{wrote_nothing, wrote_then, part_then, spaced_split, spaced_more}
+use Rattle.output_lines.proofs.lines.write_numbers.Goals as goal
 
 pub loop-number-init : goal.loop-number-init
 loop-number-init g c = let sink = g.W.Sink in wrote_nothing sink.got sink.faults sink.plan c.args.out.now

@@ -1,8 +1,8 @@
 use Rattle.std.proofs.Common.{◌∷◌, []}
 use Rattle.std.specs.Prelude.{decimal}
 use Rattle.std.proofs.lemmas.Result.{err_from_is_err_and}
-use Rattle.mail_commands.proofs.Writes.{part_front}
-use Rattle.mail_commands.proofs.lines.write_number.Goals as goal
+use Rattle.output_lines.proofs.Writes.{part_front}
+use Rattle.output_lines.proofs.lines.write_number.Goals as goal
 
 pub returns-in_err-write_all : goal.returns-in_err-write_all
 returns-in_err-write_all g c =

@@ -1,7 +1,7 @@
 use Rattle.std.proofs.Common.{◌≡◌, ◌++◌, List, ℕ, length}
 use Rattle.hex.specs.Hex.{encode_lower}
-use Rattle.mail_commands.specs.private.Telling.{Hands}
-use Rattle.mail_commands.proofs.lines.write_line.Given as goal
+use Rattle.output_lines.specs.private.Holding.{Hands}
+use Rattle.output_lines.proofs.lines.write_line.Given as goal
 
 -- the digits so far were written or are held, and those of the rest are left
 abbrev pub invariant-loop-rest : goal.invariant-loop-rest

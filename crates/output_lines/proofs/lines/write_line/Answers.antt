@@ -3,9 +3,9 @@ use Rattle.std.proofs.lemmas.List.{append-nil}
 use Rattle.std.proofs.lemmas.Result.{err_from_is_err_and}
 use Rattle.hex.specs.Hex.{encode_lower}
 use Rattle.age_format.specs.Outside.{WrotePart}
-use Rattle.mail_commands.specs.private.Telling.{Hands}
-use Rattle.mail_commands.proofs.Writes.{digits_all, digits_more, line_split, hands_nothing, hands_part, hands_pushed, hands_then}
-use Rattle.mail_commands.proofs.lines.write_line.Goals as goal
+use Rattle.output_lines.specs.private.Holding.{Hands}
+use Rattle.output_lines.proofs.Writes.{digits_all, digits_more, line_split, hands_nothing, hands_part, hands_pushed, hands_then}
+use Rattle.output_lines.proofs.lines.write_line.Goals as goal
 
 pub loop-rest-init : goal.loop-rest-init
 loop-rest-init g c =

@@ -1,7 +1,7 @@
 use Rattle.std.proofs.Common.{[], take}
-use Rattle.mail_commands.specs.Lines.{lines}
-use Rattle.mail_commands.specs.private.Telling.{Hands}
-use Rattle.mail_commands.proofs.lines.write_lines.Given as goal
+use Rattle.output_lines.specs.Lines.{lines}
+use Rattle.output_lines.specs.private.Holding.{Hands}
+use Rattle.output_lines.proofs.lines.write_lines.Given as goal
 
 -- the items so far were written or are held
 abbrev pub invariant-loop-i : goal.invariant-loop-i

@@ -7,8 +7,8 @@ use Rattle.std.proofs.lemmas.List.Concat.{flat_map-append}
 use Rattle.std.proofs.lemmas.Option.{none-some}
 use Rattle.hex.specs.Hex.{encode_with, encode_lower, lower_digits}
 use Rattle.age_format.specs.Outside.{Gains, GainsPart, Rose, Wrote, WrotePart, Writes}
-use Rattle.mail_commands.specs.Lines.{lines, spaced}
-use Rattle.mail_commands.specs.private.Telling.{Hands}
+use Rattle.output_lines.specs.Lines.{lines, spaced}
+use Rattle.output_lines.specs.private.Holding.{Hands}
 
 gains_then : (a b c : Option (List ℕ)) (x y : List ℕ) → Gains a b x → Gains b c y → Gains a c (x ++ y)
 gains_then None b c x y h k = tt

@@ -4,7 +4,7 @@
 ghost use Rattle.std.specs.Prelude.{◌≡◌, ◌≤◌, ◌+◌, ◌*◌, ◌++◌, ◌∷◌, [], length, OnOk};
 ghost use Rattle.hex.specs.Hex.{encode_lower};
 ghost use Rattle.age_format.specs.Outside.{Writes};
-ghost use Rattle.mail_commands.specs.private.Telling.{Passes};
+ghost use Rattle.output_lines.specs.private.Holding.{Passes};
 
 use age_format::outside::{Failed, Sink, write_all};
 use std::marker::Model;

@@ -3,10 +3,10 @@ use Rattle.std.proofs.lemmas.List.{take_all}
 use Rattle.std.proofs.lemmas.Result.{err_from_is_err_and}
 use Rattle.hex.specs.Hex.{encode_lower}
 use Rattle.age_format.specs.Outside.{Writes, WrotePart}
-use Rattle.mail_commands.specs.Lines.{lines}
-use Rattle.mail_commands.specs.private.Telling.{Hands}
-use Rattle.mail_commands.proofs.Writes.{hands_nothing, hands_part, hands_then, lines_split, lines_more, writes_held}
-use Rattle.mail_commands.proofs.lines.write_lines.Goals as goal
+use Rattle.output_lines.specs.Lines.{lines}
+use Rattle.output_lines.specs.private.Holding.{Hands}
+use Rattle.output_lines.proofs.Writes.{hands_nothing, hands_part, hands_then, lines_split, lines_more, writes_held}
+use Rattle.output_lines.proofs.lines.write_lines.Goals as goal
 
 pub loop-i-init : goal.loop-i-init
 loop-i-init g c =
