@@ -1,5 +1,5 @@
 -- What the random source of `seal` gives are bytes.
-use Rattle.std.proofs.Common.{◌≡◌, ◌<◌, ℕ, zero, suc, ◌+◌, ◌/◌, ◌%◌, ◌^◌, List, [], ◌∷◌, ◌++◌, sym, subst, append_assoc, arith}
+use Rattle.std.proofs.Common.{◌<◌, ℕ, zero, suc, ◌+◌, ◌/◌, ◌%◌, ◌^◌, List, [], ◌∷◌, ◌++◌, sym, subst, append_assoc, arith}
 use Rattle.std.specs.Int.{byte_at, bytes_low_first, to_le_bytes, w32}
 use Rattle.std.proofs.lemmas.List.{append-nil}
 use Rattle.rand_core.specs.Steps.{state_after, steps_u32, stream_of, word_bytes}
