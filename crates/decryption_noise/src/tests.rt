@@ -10,8 +10,8 @@ use crate::laws;
 use crate::tests::model::{DEGREE, Q, Seen, bit, encrypt_and_decrypt};
 use crate::tests::received::received_secret;
 use crate::tests::rows::{
-    DECAPSULATIONS_512, DECAPSULATIONS_768, DECAPSULATIONS_1024, Decapsulation, ENDS, End, Noise,
-    ONE_BYTE, SHA_2,
+    Decapsulation, End, Noise, decapsulations_512, decapsulations_768, decapsulations_1024, ends,
+    one_byte_rows, sha_2_rows,
 };
 use hash_families::OneByteHash;
 use hex::FromHex;
@@ -103,10 +103,10 @@ fn is_row<H: KemHash>(alloc: Global, row: &Noise) -> Result<bool, Fail> {
 
 #[test]
 fn noise_is_that_of_the_model(rt: HostRuntime) -> Result<(), Fail> {
-    for row in SHA_2 {
+    for row in sha_2_rows() {
         assert!(rt; is_row::<Sha2Hash>(rt.alloc(), row)?);
     }
-    for row in ONE_BYTE {
+    for row in one_byte_rows() {
         assert!(rt; is_row::<OneByteHash>(rt.alloc(), row)?);
     }
     Ok(())
@@ -125,7 +125,7 @@ fn is_end(alloc: Global, row: &End) -> Result<bool, Fail> {
 
 #[test]
 fn noise_meets_the_ends(rt: HostRuntime) -> Result<(), Fail> {
-    for row in ENDS {
+    for row in ends() {
         assert!(rt; is_end(rt.alloc(), row)?);
     }
     Ok(())
@@ -147,13 +147,13 @@ fn is_decapsulation<P: ParameterSet>(alloc: Global, row: &Decapsulation) -> Resu
 
 #[test]
 fn decapsulations_have_their_answers(rt: HostRuntime) -> Result<(), Fail> {
-    for row in DECAPSULATIONS_512 {
+    for row in decapsulations_512() {
         assert!(rt; is_decapsulation::<MlKem512>(rt.alloc(), row)?);
     }
-    for row in DECAPSULATIONS_768 {
+    for row in decapsulations_768() {
         assert!(rt; is_decapsulation::<MlKem768>(rt.alloc(), row)?);
     }
-    for row in DECAPSULATIONS_1024 {
+    for row in decapsulations_1024() {
         assert!(rt; is_decapsulation::<MlKem1024>(rt.alloc(), row)?);
     }
     Ok(())

@@ -8,6 +8,18 @@ use std::test::Fail;
 
 mod long_digests;
 
+// What a case is, a key, a text, and the code of the text under the key.
+type Code = (&'static str, &'static str, &'static str, &'static str);
+
+// A salt, key material, an info, and an output of so many bytes.
+type Output = (
+    &'static str,
+    &'static str,
+    &'static str,
+    usize,
+    &'static str,
+);
+
 // The digest of a message, by the calls of the trait.
 fn digest<T: HkdfHash>(alloc: Global, message: &[u8]) -> Result<String, Fail> {
     let mut hasher = T::start();
@@ -34,9 +46,9 @@ fn expand<T: HkdfHash>(
     Ok(out)
 }
 
-#[test]
-fn hmac_of_short_and_long_keys(rt: HostRuntime) -> Result<(), Fail> {
-    let cases = [
+// Codes by SHA-256.
+fn codes_by_sha256() -> &'static [Code] {
+    &[
         (
             "RFC 4231, case 1",
             "0b0b0b0b0b0b0b0b0b0b0b0b0b0b0b0b0b0b0b0b",
@@ -85,8 +97,12 @@ fn hmac_of_short_and_long_keys(rt: HostRuntime) -> Result<(), Fail> {
             "b9e96d914f17c823c5789f2c194b13f0af044b581c224fa32488693d5a181f97e376495a0cda84a590c284f6",
             "03c9e8257bcae2857c3e64bfedb8d70b7e53c6a0e927534e361b38c4261de242",
         ),
-    ];
-    for (name, key, text, want) in cases {
+    ]
+}
+
+#[test]
+fn hmac_of_short_and_long_keys(rt: HostRuntime) -> Result<(), Fail> {
+    for &(name, key, text, want) in codes_by_sha256() {
         let code = hmac::<HashSha256>(rt.alloc(), key, text)?;
         assert_eq!(rt; code.as_str(), want, "{name}");
     }
@@ -147,10 +163,9 @@ fn hkdf_of_rfc_5869(rt: HostRuntime) -> Result<(), Fail> {
     Ok(())
 }
 
-#[test]
-fn hkdf_of_the_model(rt: HostRuntime) -> Result<(), Fail> {
-    let alloc = rt.alloc();
-    let cases = [
+// Outputs by SHA-256.
+fn outputs_by_sha256() -> &'static [Output] {
+    &[
         ("", "", "", 0, ""),
         ("45", "fa42f6", "efbc89a5c8", 1, "18"),
         (
@@ -167,8 +182,13 @@ fn hkdf_of_the_model(rt: HostRuntime) -> Result<(), Fail> {
             64,
             "9bcc294cf23a3c9327b12744297ba936e36919adb42846535a039e7c5b2bfc0af4cea7e7497cabc46da3127429ca3cfea6ff5648dbed057acaa9de1a127cdbac",
         ),
-    ];
-    for (salt, ikm, info, len, want) in cases {
+    ]
+}
+
+#[test]
+fn hkdf_of_the_model(rt: HostRuntime) -> Result<(), Fail> {
+    let alloc = rt.alloc();
+    for &(salt, ikm, info, len, want) in outputs_by_sha256() {
         let hkdf = Hkdf::<HashSha256>::new(
             hex::decode(alloc, salt)?.as_slice(),
             hex::decode(alloc, ikm)?.as_slice(),

@@ -54,9 +54,9 @@ fn key(alloc: Global, bytes: &[u8]) -> Result<MaskKey, HpkeError> {
     MaskKey::from_bytes(alloc, bytes)
 }
 
-#[test]
-fn texts_of_errors(rt: HostRuntime) -> Result<(), Fail> {
-    let texts = [
+// Errors and their texts.
+fn error_texts() -> &'static [(HpkeError, &'static str)] {
+    &[
         (HpkeError::NoMemory, "No memory"),
         (HpkeError::MessageLimitReached, "Message limit reached"),
         (HpkeError::OpenError, "Failed to open ciphertext"),
@@ -72,8 +72,12 @@ fn texts_of_errors(rt: HostRuntime) -> Result<(), Fail> {
             HpkeError::IncorrectInputLength(32, 31),
             "Incorrect input length. Expected 32 bytes. Got 31.",
         ),
-    ];
-    for (error, text) in texts {
+    ]
+}
+
+#[test]
+fn texts_of_errors(rt: HostRuntime) -> Result<(), Fail> {
+    for &(error, text) in error_texts() {
         assert_eq!(rt; format!(in rt.alloc(); "{error}")?.as_str(), text);
     }
     Ok(())
@@ -191,10 +195,9 @@ fn nonce_digits(alloc: Global, base_nonce: &str, number: u64) -> Result<String, 
     Ok(hex::encode(alloc, made.as_slice())?)
 }
 
-// Nonces of an independent model, each by its base nonce and number.
-#[test]
-fn nonces_of_numbers(rt: HostRuntime) -> Result<(), Fail> {
-    let cases = [
+// Base nonces, numbers, and the nonces of an independent model.
+fn numbered_nonces() -> &'static [(&'static str, u64, &'static str)] {
+    &[
         ("46d41b6334664be3b4bbe4ec", 0, "46d41b6334664be3b4bbe4ec"),
         ("044d130a95e442722f944b6c", 1, "044d130a95e442722f944b6d"),
         ("bdfc826ef443355b89aa6d39", 255, "bdfc826ef443355b89aa6dc6"),
@@ -214,8 +217,13 @@ fn nonces_of_numbers(rt: HostRuntime) -> Result<(), Fail> {
             18446744073709551615,
             "fd36a2ed71b251c8ecc20ea8",
         ),
-    ];
-    for (base_nonce, number, want) in cases {
+    ]
+}
+
+// Nonces of an independent model, each by its base nonce and number.
+#[test]
+fn nonces_of_numbers(rt: HostRuntime) -> Result<(), Fail> {
+    for &(base_nonce, number, want) in numbered_nonces() {
         assert_eq!(rt;
             nonce_digits(rt.alloc(), base_nonce, number)?.as_str(),
             want

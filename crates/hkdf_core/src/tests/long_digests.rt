@@ -1,14 +1,14 @@
 //! The cases of the longer hash functions: HMAC from RFC 4231, and keys about the length of a block
 //! and expansions of an independent model. RFC 5869 has no cases for them.
 
-use super::{digest, expand, hmac};
+use super::{Code, Output, digest, expand, hmac};
 use crate::laws::{most_output_blocks, sizes_of_sha2};
 use crate::{HashSha256, HashSha384, HashSha512, Hkdf, HkdfHash, MAX_OUTPUT_BLOCKS};
 use std::test::Fail;
 
-#[test]
-fn hmac_by_sha384(rt: HostRuntime) -> Result<(), Fail> {
-    let cases = [
+// Codes by SHA-384.
+fn codes_by_sha384() -> &'static [Code] {
+    &[
         (
             "RFC 4231, case 1",
             "0b0b0b0b0b0b0b0b0b0b0b0b0b0b0b0b0b0b0b0b",
@@ -39,18 +39,21 @@ fn hmac_by_sha384(rt: HostRuntime) -> Result<(), Fail> {
             "a83c639e9b36fef877402647890d7cb6da8d4d612e890c689e4d128321a7",
             "91424ffc37c9b4b8e70addd6d48c9f7204a8b3dcc06588ddf152c2b4d4ab65cd2ec88167de199163bef75899fa98fc08",
         ),
-    ];
-    for (name, key, text, want) in cases {
+    ]
+}
+
+#[test]
+fn hmac_by_sha384(rt: HostRuntime) -> Result<(), Fail> {
+    for &(name, key, text, want) in codes_by_sha384() {
         let code = hmac::<HashSha384>(rt.alloc(), key, text)?;
         assert_eq!(rt; code.as_str(), want, "{name}");
     }
     Ok(())
 }
 
-#[test]
-fn hkdf_by_sha384(rt: HostRuntime) -> Result<(), Fail> {
-    let alloc = rt.alloc();
-    let cases = [
+// Outputs by SHA-384.
+fn outputs_by_sha384() -> &'static [Output] {
+    &[
         ("45", "b615f3", "7fbf1a32be", 1, "6a"),
         (
             "34e2836b5476e9fa041a6a68f4801ede4633f762508916601ecd0e57f714ed7928f4d7880041a478153e36fe70696d27c3",
@@ -66,8 +69,13 @@ fn hkdf_by_sha384(rt: HostRuntime) -> Result<(), Fail> {
             200,
             "7391bf5d9d6d05b8e8633e71ce12b34d0a07f0b475392f6906ecfd9b49d408590fd7c1843432036c52bd854396b5621d9b93794e6210dc56467cc99c51a9e1692ccaa57604b402d05e0a1c65aee12c9080a9dd0ae21d176d8eb2ac8e0549ec2f88552a4ab4448c1b9e29c69f41c0b2735fbc35739dec763dd98aa8d4f2d93dc7dc7a2296d29452f14b238cecd6b250396c05bcd9f8eedd256904da8495d16513bf68d4a713e1b3386b84c374097f80af105c6c2f42138f6516d777a23f8046a60cc8783943e2ac3b",
         ),
-    ];
-    for (salt, ikm, info, len, want) in cases {
+    ]
+}
+
+#[test]
+fn hkdf_by_sha384(rt: HostRuntime) -> Result<(), Fail> {
+    let alloc = rt.alloc();
+    for &(salt, ikm, info, len, want) in outputs_by_sha384() {
         let hkdf = Hkdf::<HashSha384>::new(
             hex::decode(alloc, salt)?.as_slice(),
             hex::decode(alloc, ikm)?.as_slice(),
@@ -105,9 +113,9 @@ fn the_longest_output_by_sha384(rt: HostRuntime) -> Result<(), Fail> {
     Ok(())
 }
 
-#[test]
-fn hmac_by_sha512(rt: HostRuntime) -> Result<(), Fail> {
-    let cases = [
+// Codes by SHA-512.
+fn codes_by_sha512() -> &'static [Code] {
+    &[
         (
             "RFC 4231, case 1",
             "0b0b0b0b0b0b0b0b0b0b0b0b0b0b0b0b0b0b0b0b",
@@ -138,18 +146,21 @@ fn hmac_by_sha512(rt: HostRuntime) -> Result<(), Fail> {
             "af414d40b3a016275875ea1f21ed223924c1dbc7ce055b9841ae68c2d0d3",
             "63532b1b0f01e2596af9c6418c51dda06f89c3ae31ac5c5ae3b65d6e1c2ff2a435ec269035ccebd9215cd15fb6ab47e48d8962616a5d4581316b041a3fdef663",
         ),
-    ];
-    for (name, key, text, want) in cases {
+    ]
+}
+
+#[test]
+fn hmac_by_sha512(rt: HostRuntime) -> Result<(), Fail> {
+    for &(name, key, text, want) in codes_by_sha512() {
         let code = hmac::<HashSha512>(rt.alloc(), key, text)?;
         assert_eq!(rt; code.as_str(), want, "{name}");
     }
     Ok(())
 }
 
-#[test]
-fn hkdf_by_sha512(rt: HostRuntime) -> Result<(), Fail> {
-    let alloc = rt.alloc();
-    let cases = [
+// Outputs by SHA-512.
+fn outputs_by_sha512() -> &'static [Output] {
+    &[
         ("ad", "c475b3", "067f521d62", 1, "cc"),
         (
             "afe91cb80f85d2a03d007e41ca08d8ae3d13b6c394d7d08e3bd1dc80387b654b2a453c454b25c9f338d468e0b084358ccc4ad2d99d52c3f797ff0f7e2f9bf82ce2",
@@ -165,8 +176,13 @@ fn hkdf_by_sha512(rt: HostRuntime) -> Result<(), Fail> {
             200,
             "20231af9192556a9a0d436f3db192baad666ddb7b2f8b8e355e0dfb2e6d662d27260a8681553e8e07435844fe77e10f328a927a8e31206d29d47ac7514b3c496c248be84de5e9219047dd74abd6d54c65147c4260683e5dc245fa7cde7062cbe97dcfc3b852a7b2f51a6a99962b97e3d497aba7013ddabe5a678074b27f4712b8de0be8c8b7dfe06d5400060142932e10dfa43c2e53ac03d228c9da8182e60b71796eb433d539f69eb648471b0945b6cda1768840b5adbf321a625022e0e4b4cbb1276358346ab9f",
         ),
-    ];
-    for (salt, ikm, info, len, want) in cases {
+    ]
+}
+
+#[test]
+fn hkdf_by_sha512(rt: HostRuntime) -> Result<(), Fail> {
+    let alloc = rt.alloc();
+    for &(salt, ikm, info, len, want) in outputs_by_sha512() {
         let hkdf = Hkdf::<HashSha512>::new(
             hex::decode(alloc, salt)?.as_slice(),
             hex::decode(alloc, ikm)?.as_slice(),

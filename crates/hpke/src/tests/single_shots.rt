@@ -71,10 +71,9 @@ fn sealed_and_opened(alloc: Global, modes: [u8; 2], info: &[u8]) -> Result<Vec<u
     )
 }
 
-// The test KEM takes no sender's identity.
-#[test]
-fn single_shots_in_each_mode(rt: HostRuntime) -> Result<(), Fail> {
-    let cases = [
+// The modes of both sides, the receiver's info, and what is refused.
+fn modes_and_infos() -> &'static [([u8; 2], &'static str, Option<HpkeError>)] {
+    &[
         ([0, 0], "info", None),
         ([1, 1], "info", None),
         ([0, 0], "information", Some(HpkeError::OpenError)),
@@ -85,8 +84,13 @@ fn single_shots_in_each_mode(rt: HostRuntime) -> Result<(), Fail> {
         ([3, 1], "info", Some(HpkeError::EncapError)),
         ([0, 2], "info", Some(HpkeError::DecapError)),
         ([1, 3], "info", Some(HpkeError::DecapError)),
-    ];
-    for (modes, info, refusal) in cases {
+    ]
+}
+
+// The test KEM takes no sender's identity.
+#[test]
+fn single_shots_in_each_mode(rt: HostRuntime) -> Result<(), Fail> {
+    for &(modes, info, refusal) in modes_and_infos() {
         match sealed_and_opened(rt.alloc(), modes, info.as_bytes()) {
             Ok(text) => {
                 assert_eq!(rt; refusal, None);
