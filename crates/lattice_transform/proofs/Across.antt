@@ -5,7 +5,7 @@ use Rattle.std.specs.List.{range_with_len}
 use Rattle.std.proofs.lemmas.List.{ext_get_or, get_or_default}
 use Rattle.std.proofs.lemmas.List.FromFn.{get_or-map-range_with_len, length-map-range_with_len}
 use Rattle.module_lattice.specs.Ring.{IsPolynomial}
-use Rattle.lattice_transform.specs.Rows.{across, by_turns, shuffled, transposed}
+use Rattle.lattice_transform.specs.private.Rows.{across, by_turns, shuffled, transposed}
 use Rattle.lattice_transform.proofs.Filled.{Filled, filled-next}
 use Rattle.lattice_transform.proofs.Tables.{from_table}
 

@@ -5,7 +5,7 @@ use Rattle.std.proofs.lemmas.Bool.{cases_eq}
 use Rattle.std.proofs.lemmas.List.{ext_get_or}
 use Rattle.module_lattice.specs.Ring.{butterfly}
 use Rattle.lattice_transform.specs.Layers.{butterflies, first_place, inverse_butterflies, inverse_butterfly, inverse_layer, layer, zeta}
-use Rattle.lattice_transform.specs.Rows.{across, first_in_rows, inverse_row_butterflies, place_back, place_of_zeta, row_butterflies, transposed, zeta_number}
+use Rattle.lattice_transform.specs.private.Rows.{across, first_in_rows, inverse_row_butterflies, place_back, place_of_zeta, row_butterflies, transposed, zeta_number}
 use Rattle.lattice_transform.proofs.Across.{length-transposed, transposed-at, transposed-twice}
 use Rattle.lattice_transform.proofs.Butterflies.{AreApart, Stage, Step, all_stages}
 use Rattle.lattice_transform.proofs.Groups.{are-apart, both_sum, difference_part, sum_part, turned_difference}

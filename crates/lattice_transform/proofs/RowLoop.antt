@@ -2,7 +2,7 @@
 use Rattle.std.proofs.Common.{◌≡◌, ℕ, suc, ◌+◌, ◌-◌, ◌*◌, ◌/◌, ◌%◌, ◌<◌, List, sym, ap, ap₂, ◌∙◌, arith}
 use Rattle.module_lattice.specs.Ring.{butterfly}
 use Rattle.lattice_transform.specs.Layers.{inverse_butterfly, zeta}
-use Rattle.lattice_transform.specs.Rows.{AreRows, first_in_rows, inverse_row_butterflies, place_back, place_of_zeta, row_butterflies, zeta_number}
+use Rattle.lattice_transform.specs.private.Rows.{AreRows, first_in_rows, inverse_row_butterflies, place_back, place_of_zeta, row_butterflies, zeta_number}
 
 -- a row and a column of their butterfly
 row-of : (row column : ℕ) → column < 16 → (16 * row + column) / 16 ≡ row

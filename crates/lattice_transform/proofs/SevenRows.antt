@@ -2,7 +2,7 @@
 use Rattle.std.proofs.Common.{◌≡◌, List, ℕ, length, ap, ◌∙◌}
 use Rattle.module_lattice.specs.Ring.{IsPolynomial, multiple}
 use Rattle.lattice_transform.specs.Layers.{inverse_layer, layer}
-use Rattle.lattice_transform.specs.Rows.{inverse_row_butterflies, row_butterflies, transposed}
+use Rattle.lattice_transform.specs.private.Rows.{inverse_row_butterflies, row_butterflies, transposed}
 use Rattle.lattice_transform.specs.Transform.{inverse_transform, transform}
 use Rattle.lattice_transform.proofs.RowLayers.{four-layers, four-layers-back, three-layers, three-layers-back}
 use Rattle.lattice_transform.proofs.Seven.{layers-transform}

@@ -6,7 +6,7 @@ use Rattle.std.proofs.lemmas.List.FromFn.{get_or-map-range_with_len}
 use Rattle.module_lattice.specs.Pairs.{bit_rev7}
 use Rattle.lattice_transform.specs.declared.zetas.TheConstants.{ROW_QUOTIENTS, ROW_ZETAS, ZETAS}
 use Rattle.lattice_transform.specs.Layers.{zeta}
-use Rattle.lattice_transform.specs.Rows.{zeta_number}
+use Rattle.lattice_transform.specs.private.Rows.{zeta_number}
 
 -- the table is the rule, place by place
 ZETAS_is : map zeta (range_with_len 0 128) ≡ ZETAS

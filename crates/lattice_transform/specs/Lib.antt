@@ -2,5 +2,5 @@
 pub mod Transform
 -- the transform by layers of butterflies
 pub mod Layers
--- layers over rows of 16 numbers
-pub mod Rows
+-- what the transforms by arrays are stated by
+pub mod private

@@ -7,7 +7,7 @@
 ghost use Rattle.std.specs.Prelude.{◌≡◌, ◌+◌, ◌-◌, ◌*◌, ◌/◌, ◌%◌, ◌^◌, ◌<◌, ◌≤◌, List, ℕ};
 ghost use Rattle.module_lattice.specs.Ring.{IsPolynomial, butterfly, multiple, times};
 ghost use Rattle.lattice_transform.specs.Layers.{inverse_butterfly};
-ghost use Rattle.lattice_transform.specs.Rows.{AreRows, inverse_row_butterflies, row_butterflies, shuffled, transposed};
+ghost use Rattle.lattice_transform.specs.private.Rows.{AreRows, inverse_row_butterflies, row_butterflies, shuffled, transposed};
 ghost use Rattle.lattice_transform.specs.Transform.{inverse_transform, transform};
 
 use crate::zetas::{row_quotient, row_zeta};

@@ -2,7 +2,7 @@
 
 ghost use Rattle.std.specs.Prelude.{◌≡◌, ◌*◌, ◌/◌, ◌^◌, ◌<◌};
 ghost use Rattle.lattice_transform.specs.Layers.{zeta};
-ghost use Rattle.lattice_transform.specs.Rows.{zeta_number};
+ghost use Rattle.lattice_transform.specs.private.Rows.{zeta_number};
 
 use module_lattice::{BaseField, Elem};
 

@@ -1,5 +1,5 @@
 use Rattle.std.proofs.Common.{refl, arith}
-use Rattle.lattice_transform.specs.Rows.{row_butterflies}
+use Rattle.lattice_transform.specs.private.Rows.{row_butterflies}
 use Rattle.lattice_transform.proofs.RowLoop.{rows-same}
 use Rattle.lattice_transform.proofs.arrays.make_layer.Goals as goal
 

@@ -1,6 +1,6 @@
 use Rattle.std.proofs.Common.{◌≡◌, ◌*◌}
 use Rattle.module_lattice.specs.Ring.{IsPolynomial}
-use Rattle.lattice_transform.specs.Rows.{row_butterflies}
+use Rattle.lattice_transform.specs.private.Rows.{row_butterflies}
 use Rattle.lattice_transform.proofs.arrays.make_layer.Given as goal
 
 -- the butterflies of the rows before this one were made

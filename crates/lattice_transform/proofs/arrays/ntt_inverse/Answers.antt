@@ -1,6 +1,6 @@
 use Rattle.std.proofs.Common.{◌∙◌, ap, subst, sym}
 use Rattle.module_lattice.specs.Ring.{IsPolynomial}
-use Rattle.lattice_transform.specs.Rows.{transposed}
+use Rattle.lattice_transform.specs.private.Rows.{transposed}
 use Rattle.lattice_transform.proofs.Across.{polynomial-transposed}
 use Rattle.lattice_transform.proofs.Polynomials.{IsPolynomial-inverse}
 use Rattle.lattice_transform.proofs.SevenRows.{back-by-rows}

@@ -1,5 +1,5 @@
 use Rattle.std.proofs.Common.{◌*◌, get_or}
-use Rattle.lattice_transform.specs.Rows.{by_turns}
+use Rattle.lattice_transform.specs.private.Rows.{by_turns}
 use Rattle.lattice_transform.proofs.Filled.{Filled}
 use Rattle.lattice_transform.proofs.arrays.shuffle.Given as goal
 

@@ -1,5 +1,5 @@
 use Rattle.std.proofs.Common.{◌∙◌, ap}
-use Rattle.lattice_transform.specs.Rows.{shuffled}
+use Rattle.lattice_transform.specs.private.Rows.{shuffled}
 use Rattle.lattice_transform.proofs.Across.{four-shuffles}
 use Rattle.lattice_transform.proofs.arrays.turn_over.Goals as goal
 

@@ -1,5 +1,5 @@
 use Rattle.std.proofs.Common.{refl, arith}
-use Rattle.lattice_transform.specs.Rows.{inverse_row_butterflies}
+use Rattle.lattice_transform.specs.private.Rows.{inverse_row_butterflies}
 use Rattle.lattice_transform.proofs.RowLoop.{back-same}
 use Rattle.lattice_transform.proofs.arrays.undo_layer.Goals as goal
 

@@ -1,6 +1,6 @@
 use Rattle.std.proofs.Common.{◌≡◌, ◌+◌, ◌*◌, ℕ, List}
 use Rattle.module_lattice.specs.Ring.{IsPolynomial}
-use Rattle.lattice_transform.specs.Rows.{inverse_row_butterflies}
+use Rattle.lattice_transform.specs.private.Rows.{inverse_row_butterflies}
 use Rattle.lattice_transform.proofs.arrays.undo_row.Given as goal
 
 -- the butterflies of the columns before this one were made

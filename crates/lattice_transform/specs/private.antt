@@ -1,0 +1,2 @@
+-- layers over rows of 16 numbers
+pub mod Rows
