@@ -1,11 +1,11 @@
 //! AES-GCM in place under keys of both sizes. What a trial made is used after it, so that the compiler
 //! leaves none of the work out.
 
+use crate::sha256;
 use crate::stopwatch::{Work, fastest};
 use anyhow::Result;
 use gcm_core::{AesGcm128Impl, AesGcm256Impl};
-use sha2::{Digest, Sha256};
-use std::alloc::{AllocError, Global};
+use std::alloc::Global;
 use std::time::CpuClock;
 
 /// The lengths of the texts in bytes, each with how many runs make a trial.
@@ -126,30 +126,6 @@ impl<C: Cipher> Work for Opening<C> {
     }
 }
 
-/// A text that is hashed, and then takes a byte of its digest.
-#[derive(Drop)]
-pub struct Hashing {
-    text: Vec<u8>,
-}
-
-impl Hashing {
-    /// The hashing of a text of this many bytes.
-    pub fn new(alloc: Global, size: usize) -> Result<Hashing, AllocError> {
-        let text = vec![in alloc; 5; size]?;
-        Ok(Hashing { text })
-    }
-}
-
-impl Work for Hashing {
-    fn run(&mut self) -> Result<()> {
-        let digest = Sha256::digest(self.text.as_slice());
-        if let Some(first) = self.text.first_mut() {
-            *first = digest[0];
-        }
-        Ok(())
-    }
-}
-
 fn print_sealing<C: Cipher>(
     rt: &(impl Print + CpuClock + AllocGlobal),
     size: usize,
@@ -182,13 +158,6 @@ fn print_opening<C: Cipher>(
     Ok(())
 }
 
-fn print_hashing(rt: &(impl Print + CpuClock + AllocGlobal), size: usize, runs: u32) -> Result<()> {
-    let mut hashing = Hashing::new(rt.alloc(), size)?;
-    let time = fastest(rt, &mut hashing, runs)?;
-    println!(rt; "SHA-256 {size}: {} MB/s", time.megabytes(size))?;
-    Ok(())
-}
-
 fn print_keying<C: Cipher>(rt: &(impl Print + CpuClock)) -> Result<()> {
     let mut keying = Keying {
         key: KEY,
@@ -214,7 +183,7 @@ fn print_cipher<C: Cipher>(rt: &(impl Print + CpuClock + AllocGlobal)) -> Result
 /// Prints the times of SHA-256 and of both ciphers.
 pub fn print_all(rt: &(impl Print + CpuClock + AllocGlobal)) -> Result<()> {
     for (size, runs) in SIZES {
-        print_hashing(rt, size, runs)?;
+        sha256::print_size(rt, size, runs)?;
     }
     print_cipher::<AesGcm128Impl>(rt)?;
     print_cipher::<AesGcm256Impl>(rt)

@@ -1,6 +1,7 @@
 //! SHA3-256 and SHAKE128 over one text. What a trial made is used after it, so that the compiler leaves
 //! none of the work out.
 
+use crate::sha256;
 use crate::stopwatch::{Work, fastest};
 use anyhow::Result;
 use sha3::{Digest, ExtendableOutput, Sha3_256, Shake128, XofReader};
@@ -48,8 +49,9 @@ impl Work for Hashing {
     }
 }
 
-/// Prints the times of both functions.
+/// Prints the times of SHA-256 and of both functions.
 pub fn print_all(rt: &(impl Print + CpuClock + AllocGlobal)) -> Result<()> {
+    sha256::print_one(rt)?;
     for function in [Function::Sha3_256, Function::Shake128] {
         let text = vec![in rt.alloc(); 5; SIZE]?;
         let mut hashing = Hashing { function, text };

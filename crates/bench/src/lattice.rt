@@ -1,6 +1,6 @@
 //! The lattice KEM over the family of SHA-2, for its three sets, and over the family of SHA-3 at 768.
 
-use crate::ciphers::Hashing;
+use crate::sha256;
 use crate::stopwatch::{Work, fastest};
 use anyhow::{Result, ensure};
 use kem_hash::{KemHash, Sha2Hash};
@@ -13,12 +13,6 @@ use std::time::CpuClock;
 
 /// How many calls make a trial.
 const RUNS: u32 = 8;
-
-/// How many hashes make a trial.
-const HASHES: u32 = 256;
-
-/// The bytes that are hashed beside.
-const HASHED: usize = 8192;
 
 /// A call of the KEM.
 #[derive(Clone, Copy, Debug)]
@@ -86,9 +80,7 @@ fn print_set<P: ParameterSet, H: KemHash>(
 
 /// Prints the times of SHA-256, of the three sets, and of one over the other family.
 pub fn print_all(rt: &(impl Print + CpuClock + AllocGlobal)) -> Result<()> {
-    let mut hashing = Hashing::new(rt.alloc(), HASHED)?;
-    let time = fastest(rt, &mut hashing, HASHES)?;
-    println!(rt; "SHA-256 {HASHED}: {} us", time.micros())?;
+    sha256::print_one(rt)?;
     print_set::<MlKem512, Sha2Hash>(rt, "ML-KEM-512")?;
     print_set::<MlKem768, Sha2Hash>(rt, "ML-KEM-768")?;
     print_set::<MlKem1024, Sha2Hash>(rt, "ML-KEM-1024")?;

@@ -9,6 +9,11 @@ const TRIALS: u32 = 10;
 
 /// A piece of work that can be done again and again.
 pub trait Work {
+    /// Does what has to be done before a trial, whose time doesn't count.
+    fn prepare(&mut self) -> Result<()> {
+        Ok(())
+    }
+
     /// Does the work once.
     fn run(&mut self) -> Result<()>;
 }
@@ -55,6 +60,7 @@ fn nanos(duration: Duration) -> u64 {
 
 // How long some runs take together.
 fn trial<W: Work>(clock: &impl CpuClock, work: &mut W, runs: u32) -> Result<u64> {
+    work.prepare()?;
     let start = clock.thread_cpu_time()?;
     for _ in 0..runs {
         work.run()?;

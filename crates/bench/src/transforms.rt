@@ -1,6 +1,7 @@
 //! The number-theoretic transforms modulo 3329 and 8380417, and the products in their domains.
 
 use crate::stopwatch::{Work, fastest};
+use crate::{matrix, sha256};
 use anyhow::{Result, ensure};
 use dsa_ring::{dsa_multiply, dsa_ntt, dsa_ntt_inverse};
 use lattice_transform::{ntt, ntt_inverse};
@@ -47,6 +48,16 @@ impl Transforms for Field8380417 {
     }
 }
 
+/// The polynomial 1 + 2·X + .. + 256·X^255.
+pub fn polynomial<F: Field>() -> Result<Polynomial<F>> {
+    let mut values = [0; 256];
+    for i in 0..256 {
+        values[i] = i as u32 + 1;
+    }
+    ensure!(values.iter().all(|x| *x < F::Q), "no polynomial");
+    Ok(Polynomial::new(values))
+}
+
 /// A call of a transform.
 #[derive(Clone, Copy, Debug)]
 enum Call {
@@ -64,14 +75,9 @@ struct Calls<F: Transforms> {
 }
 
 impl<F: Transforms> Calls<F> {
-    /// The call at the polynomial 1 + 2·X + .. + 256·X^255 and its transform.
+    /// The call at a polynomial and its transform.
     fn new(call: Call) -> Result<Calls<F>> {
-        let mut values = [0; 256];
-        for i in 0..256 {
-            values[i] = i as u32 + 1;
-        }
-        ensure!(values.iter().all(|x| *x < F::Q), "no polynomial");
-        let polynomial = Polynomial::new(values);
+        let polynomial = polynomial()?;
         let transformed = F::transform(&polynomial);
         Ok(Calls {
             call,
@@ -105,8 +111,10 @@ fn print_field<F: Transforms>(rt: &(impl Print + CpuClock)) -> Result<()> {
     Ok(())
 }
 
-/// Prints the times of both transforms.
-pub fn print_all(rt: &(impl Print + CpuClock)) -> Result<()> {
+/// Prints the times of SHA-256, of both transforms and of a product with a matrix.
+pub fn print_all(rt: &(impl Print + CpuClock + AllocGlobal)) -> Result<()> {
+    sha256::print_one(rt)?;
     print_field::<BaseField>(rt)?;
+    matrix::print_product(rt)?;
     print_field::<Field8380417>(rt)
 }
