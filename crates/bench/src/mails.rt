@@ -10,9 +10,9 @@ use anyhow::{Result, bail, ensure};
 use base64::engine::general_purpose::STANDARD_NO_PAD;
 use gcm_core::AesGcm256Impl;
 use hpke::{AesGcm256, HkdfSha256};
-use kem_hash::Sha2Hash;
+use kem_hash::{KemHash, Sha2Hash};
 use kem_mail::{MessageList, open_mail, seal_mail};
-use ml_kem::{DecapsulationKey768, MlKem768, Seed};
+use ml_kem::{DecapsulationKey, MlKem768, ParameterSet, Seed};
 use rand_chacha::ChaCha20Rng;
 use rand_core::{Rng, SeedableRng};
 use std::alloc::{AllocError, Global};
@@ -35,24 +35,16 @@ fn messages(alloc: Global, size: usize, count: usize) -> Result<MessageList, All
     Ok(MessageList::from_vecs(items))
 }
 
-/// The key of a seed.
-fn key(alloc: Global, seed: &Seed) -> Result<DecapsulationKey768<Sha2Hash>> {
-    match DecapsulationKey768::from_seed(alloc, seed) {
-        Ok(key) => Ok(key),
-        Err(_) => bail!("no key"),
-    }
-}
-
 /// Whether a mail of the messages was sealed.
-fn is_sealed<R: Rng>(
+fn is_sealed<P: ParameterSet, H: KemHash, R: Rng>(
     alloc: Global,
-    key: &DecapsulationKey768<Sha2Hash>,
+    key: &DecapsulationKey<P, H>,
     messages: &MessageList,
     rng: &mut R,
     sink: &mut MemSink,
 ) -> bool {
     let key = key.encapsulation_key();
-    seal_mail::<MlKem768, Sha2Hash, HkdfSha256, AesGcm256, R, MemSink>(
+    seal_mail::<P, H, HkdfSha256, AesGcm256, R, MemSink>(
         alloc,
         key,
         &[],
@@ -95,14 +87,29 @@ fn next_body(reader: &mut StanzaReader, source: &mut CleanSource) -> Result<Opti
 
 /// A mail that is sealed over and over.
 #[derive(Drop)]
-struct Sealing {
+struct Sealing<P: ParameterSet, H: KemHash> {
     alloc: Global,
-    key: DecapsulationKey768<Sha2Hash>,
+    key: DecapsulationKey<P, H>,
     messages: MessageList,
     sink: MemSink,
 }
 
-impl Work for Sealing {
+impl<P: ParameterSet, H: KemHash> Sealing<P, H> {
+    /// The sealing of as many messages of one length.
+    fn new(alloc: Global, size: usize, count: usize) -> Result<Sealing<P, H>> {
+        let key = DecapsulationKey::from_seed(alloc, &SEED)?;
+        let messages = messages(alloc, size, count)?;
+        let sink = MemSink::new(alloc, Vec::new(alloc));
+        Ok(Sealing {
+            alloc,
+            key,
+            messages,
+            sink,
+        })
+    }
+}
+
+impl<P: ParameterSet, H: KemHash> Work for Sealing<P, H> {
     fn prepare(&mut self) -> Result<()> {
         self.sink = MemSink::new(self.alloc, Vec::new(self.alloc));
         Ok(())
@@ -219,20 +226,14 @@ fn bodies(alloc: Global, text: &[u8]) -> Result<Vec<u8>> {
 }
 
 /// Prints the time of sealing, and answers the mail.
-fn print_sealing(
+fn print_sealing<P: ParameterSet, H: KemHash>(
     rt: &(impl Print + CpuClock + AllocGlobal),
     size: usize,
     count: usize,
 ) -> Result<Vec<u8>> {
-    let alloc = rt.alloc();
-    let mut sealing = Sealing {
-        alloc,
-        key: key(alloc, &SEED)?,
-        messages: messages(alloc, size, count)?,
-        sink: MemSink::new(alloc, Vec::new(alloc)),
-    };
+    let mut sealing = Sealing::<P, H>::new(rt.alloc(), size, count)?;
     let time = fastest(rt, &mut sealing, 1)?;
-    let text = sealing.sink.bytes().to_vec(alloc)?;
+    let text = sealing.sink.bytes().to_vec(rt.alloc())?;
     println!(rt; "{count} messages of {size}: {} bytes", text.len())?;
     println!(rt; "  seal_mail: {} us", time.micros())?;
     Ok(text)
@@ -305,7 +306,7 @@ fn print_ciphering(
 pub fn print_all(rt: &(impl Print + CpuClock + AllocGlobal)) -> Result<()> {
     sha256::print_one(rt)?;
     for (size, count) in SHAPES {
-        let text = print_sealing(rt, size, count)?;
+        let text = print_sealing::<MlKem768, Sha2Hash>(rt, size, count)?;
         print_opening(rt, text.as_slice(), count)?;
         print_ciphering(rt, size, count)?;
         print_reading(rt, text.as_slice())?;
