@@ -107,6 +107,11 @@ impl<P: ParameterSet, H: KemHash> Sealing<P, H> {
             sink,
         })
     }
+
+    /// The mail that was sealed last.
+    fn text(&self) -> Result<Vec<u8>> {
+        Ok(self.sink.bytes().to_vec(self.alloc)?)
+    }
 }
 
 impl<P: ParameterSet, H: KemHash> Work for Sealing<P, H> {
@@ -233,10 +238,11 @@ fn print_sealing<P: ParameterSet, H: KemHash>(
 ) -> Result<Vec<u8>> {
     let mut sealing = Sealing::<P, H>::new(rt.alloc(), size, count)?;
     let time = fastest(rt, &mut sealing, 1)?;
-    let text = sealing.sink.bytes().to_vec(rt.alloc())?;
-    println!(rt; "{count} messages of {size}: {} bytes", text.len())?;
-    println!(rt; "  seal_mail: {} us", time.micros())?;
-    Ok(text)
+    println!(rt;
+        "{count} messages of {size}, seal_mail: {} us",
+        time.micros()
+    )?;
+    sealing.text()
 }
 
 /// Prints the time of opening.
