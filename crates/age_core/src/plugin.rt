@@ -5,8 +5,6 @@ mod bidir;
 mod connection;
 mod reply;
 mod sending;
-#[cfg(test)]
-mod tests;
 mod unidir;
 
 pub use age_format::{PhaseError, StanzaReader};

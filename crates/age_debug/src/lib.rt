@@ -3,8 +3,6 @@
 
 mod copy;
 mod reader;
-#[cfg(test)]
-mod tests;
 mod writer;
 
 pub use reader::DebugReader;

@@ -6,9 +6,6 @@ ghost use Rattle.std.specs.String.{string_bytes};
 
 mod borrowed;
 pub mod read;
-#[cfg(test)]
-mod tests;
-
 pub use borrowed::AgeStanza;
 pub use read::{ReadRefused, is_arbitrary_string};
 

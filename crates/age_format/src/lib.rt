@@ -8,8 +8,5 @@ pub mod outside;
 mod parse;
 mod reader;
 mod scan;
-#[cfg(test)]
-mod tests;
-
 pub use error::PhaseError;
 pub use reader::StanzaReader;

@@ -15,9 +15,6 @@ use base64::engine::general_purpose::GeneralPurpose;
 use std::alloc::{AllocError, Global};
 use std::marker::Model;
 
-#[cfg(test)]
-mod tests;
-
 /// The most bytes that are asked of a source at once.
 const PIECE_LEN: usize = 4096;
 

@@ -4,5 +4,3 @@
 mod body;
 pub mod laws;
 pub mod read;
-#[cfg(test)]
-mod tests;

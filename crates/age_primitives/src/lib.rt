@@ -6,8 +6,6 @@ mod derivation;
 mod file_key;
 mod hybrid;
 mod sealing;
-#[cfg(test)]
-mod tests;
 mod text;
 
 pub use derivation::hkdf;

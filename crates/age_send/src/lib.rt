@@ -4,8 +4,6 @@
 mod grease;
 pub mod laws;
 mod send;
-#[cfg(test)]
-mod tests;
 pub mod write;
 
 pub use grease::{grease_the_joint, roll};

@@ -8,8 +8,6 @@ mod error;
 mod groups;
 mod hrp;
 pub mod laws;
-#[cfg(test)]
-mod tests;
 mod text;
 
 pub use code::{decode, encode, encode_to_slice, encoded_len};

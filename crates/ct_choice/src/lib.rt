@@ -11,6 +11,3 @@ pub use choices::Choice;
 pub use ct_gt::CtGt;
 pub use ct_lt::CtLt;
 pub use ct_neg::CtNeg;
-
-#[cfg(test)]
-mod tests;

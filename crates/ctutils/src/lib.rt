@@ -18,6 +18,3 @@ pub use ct_option::CtOption;
 pub use ct_select::{CtSelect, CtSelectArray};
 pub use search::{LookupIndex, ct_find, ct_lookup};
 pub use vectors::{vec_ct_assign, vec_ct_assign_slice, vec_ct_eq, vec_ct_eq_slice, vec_ct_select};
-
-#[cfg(test)]
-mod tests;

@@ -32,3 +32,5 @@ pub mod GroupLoop
 pub mod Multiples
 -- eight layers back
 pub mod EightBack
+-- a list that is copied
+pub mod Copies

@@ -15,8 +15,3 @@ pub use hints::{make_hint, use_hint};
 pub use layers::dsa_ntt_counted;
 pub use products::dsa_multiply;
 pub use rounding::{Gamma2, decompose, high_bits, low_bits, power2round};
-
-#[cfg(test)]
-mod model;
-#[cfg(test)]
-mod tests;

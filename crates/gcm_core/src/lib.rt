@@ -10,8 +10,5 @@ mod ghash;
 mod hash_key;
 pub mod laws;
 mod nibbles;
-#[cfg(test)]
-mod tests;
-
 pub use aes_gcm::{AesGcm, AesGcm128Impl, AesGcm256Impl};
 pub use error::{NotAuthentic, TooLong};

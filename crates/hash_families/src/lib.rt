@@ -10,6 +10,3 @@ mod pattern;
 pub use family::RepeatingHash;
 pub use one_byte::OneByteHash;
 pub use pattern::{AboutModulus, Ones, Pattern, SmallAndFifty, Zeros};
-
-#[cfg(test)]
-mod tests;

@@ -14,5 +14,3 @@ mod key_block;
 mod keyed_hash;
 pub mod laws;
 mod sha2_hashes;
-#[cfg(test)]
-mod tests;

@@ -39,6 +39,3 @@ pub use single_shot::{
     single_shot_seal_in_place_detached,
 };
 pub use tag::AeadTag;
-
-#[cfg(test)]
-mod tests;

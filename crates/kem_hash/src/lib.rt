@@ -8,6 +8,3 @@ mod sha2_hash;
 
 pub use family::{KemHash, XOF_BLOCK_SIZE};
 pub use sha2_hash::Sha2Hash;
-
-#[cfg(test)]
-mod tests;

@@ -3,7 +3,8 @@ use Rattle.std.proofs.Common.{◌≡◌, ◌≢◌, ℕ, ◌≤◌, List, [], �
 use Rattle.std.specs.Prelude.{IfErr, IfSome, IsErrOf, OnOk, Result, Ok, Err}
 use Rattle.std.proofs.lemmas.List.{append-nil}
 use Rattle.rand_core.specs.Stream.{Stream}
-use Rattle.age_format.specs.Outside.{Gains, GainsPart, Rose, Wrote, WrotePart}
+use Rattle.age_format.specs.Outside.{Wrote, WrotePart}
+use Rattle.age_format.proofs.Writing.{part_front, part_last, wrote_nothing, wrote_then}
 use Rattle.age_format.specs.Stanza.{Stanza}
 use Rattle.age_format.specs.declared.error.PhaseError.{PhaseError}
 use Rattle.age_format.specs.declared.error.PhaseError.TheVariants.{NoMemory as PhaseNoMemory, WriteFault as PhaseWriteFault, ReadFault as PhaseReadFault, InvalidData as PhaseInvalidData, UnexpectedEof as PhaseUnexpectedEof, TooMuch as PhaseTooMuch, UnexpectedReply as PhaseUnexpectedReply}
@@ -33,54 +34,12 @@ unfolding AllAfterGrease behind_sends
 AllAfterGrease-append [] ys stream h k = k
 AllAfterGrease-append (x ∷ xs) ys stream h k = (h.0, AllAfterGrease-append xs ys (second_roll stream).1 h.1 k)
 
--- ---- one write after another
-
-gains_then : (a b c : Option (List ℕ)) (x y : List ℕ) → Gains a b x → Gains b c y → Gains a c (x ++ y)
-gains_then None b c x y h k = tt
-gains_then (Some text) b c x y h k =
-    subst (λ (o : Option (List ℕ)). IfSome o (λ got. c ≡ Some (got ++ y))) h k ∙ ap Some (append_assoc text x y)
-
-gains_part : (a b c : Option (List ℕ)) (x y : List ℕ) → Gains a b x → GainsPart b c y → GainsPart a c (x ++ y)
-gains_part None b c x y h k = tt
-gains_part (Some text) b c x y h k =
-    let part = subst (λ (o : Option (List ℕ)). IfSome o (λ got. (p : List ℕ) × (r : List ℕ) × (y ≡ p ++ r) × (c ≡ Some (got ++ p)))) h k in
-    (x ++ part.0, part.1, ap (λ (t : List ℕ). x ++ t) part.2 ∙ sym (append_assoc x part.0 part.1), part.3 ∙ ap Some (append_assoc text x part.0))
-
-gains_front : (a c : Option (List ℕ)) (x z : List ℕ) → GainsPart a c x → GainsPart a c (x ++ z)
-gains_front None c x z h = tt
-gains_front (Some text) c x z h = (h.0, h.1 ++ z, ap (λ (t : List ℕ). t ++ z) h.2 ∙ append_assoc h.0 h.1 z, h.3)
-
-gains_nothing : (a : Option (List ℕ)) → Gains a a []
-gains_nothing None = tt
-gains_nothing (Some text) = ap Some (sym (append-nil text))
-
 module _ {W : Type 0} (got : W → Option (List ℕ)) (faults : W → ℕ) (plan : W → List ℕ) where
-  pub wrote_nothing : (a : W) → Wrote got faults plan a a []
-  wrote_nothing a = record { gained = gains_nothing (got a); no_fault = refl; same_plan = refl }
-
-  pub wrote_then : (a b c : W) (x y : List ℕ) → Wrote got faults plan a b x → Wrote got faults plan b c y → Wrote got faults plan a c (x ++ y)
-  wrote_then a b c x y h k = record {
-    gained = gains_then (got a) (got b) (got c) x y h.gained k.gained;
-    no_fault = k.no_fault ∙ h.no_fault;
-    same_plan = k.same_plan ∙ h.same_plan;
-  }
-
-  part_then : (a b c : W) (x y : List ℕ) → Wrote got faults plan a b x → WrotePart got faults plan b c y → WrotePart got faults plan a c (x ++ y)
-  part_then a b c x y h k = record {
-    gained = gains_part (got a) (got b) (got c) x y h.gained k.gained;
-    fault = subst (λ (n : ℕ). Rose n (faults c)) h.no_fault k.fault;
-    no_fall = subst (λ (n : ℕ). n ≤ faults c) h.no_fault k.no_fall;
-    same_plan = k.same_plan ∙ h.same_plan;
-  }
-
-  part_front : (a c : W) (x z : List ℕ) → WrotePart got faults plan a c x → WrotePart got faults plan a c (x ++ z)
-  part_front a c x z h = record { gained = gains_front (got a) (got c) x z h.gained; fault = h.fault; no_fall = h.no_fall; same_plan = h.same_plan }
-
   -- ---- one send after another
 
   pub sent_nothing : (a : W) (stream : Stream) → SentAll got faults plan a a [] stream stream
   unfolding stanzas_text behind_sends AllAfterGrease
-  sent_nothing a stream = record { wrote = wrote_nothing a; stands = refl; greased = tt }
+  sent_nothing a stream = record { wrote = wrote_nothing got faults plan a; stands = refl; greased = tt }
 
   pub ran_out_nothing : (a : W) (ys : List Stanza) (stream : Stream) → RanOutAt got faults plan a a ys stream stream
   unfolding stanzas_text behind_sends AllAfterGrease
@@ -88,14 +47,14 @@ module _ {W : Type 0} (got : W → Option (List ℕ)) (faults : W → ℕ) (plan
     part = [];
     more = stanzas_text ys stream;
     whole = refl;
-    wrote = wrote_nothing a;
+    wrote = wrote_nothing got faults plan a;
     sent = [];
     unsent = ys;
     parts = refl;
     between = a;
-    wrote_sent = wrote_nothing a;
+    wrote_sent = wrote_nothing got faults plan a;
     greased = tt;
-    stopped = inl (wrote_nothing a, refl);
+    stopped = inl (wrote_nothing got faults plan a, refl);
   }
 
   -- a send alone
@@ -117,7 +76,7 @@ module _ {W : Type 0} (got : W → Option (List ℕ)) (faults : W → ℕ) (plan
     unsent = [];
     parts = refl;
     between = a;
-    wrote_sent = wrote_nothing a;
+    wrote_sent = wrote_nothing got faults plan a;
     failed = failed;
   }
 
@@ -133,7 +92,7 @@ module _ {W : Type 0} (got : W → Option (List ℕ)) (faults : W → ℕ) (plan
     unsent = s ∷ [];
     parts = refl;
     between = a;
-    wrote_sent = wrote_nothing a;
+    wrote_sent = wrote_nothing got faults plan a;
     greased = tt;
     stopped = inr ((λ e. cc), inl h);
   }
@@ -146,7 +105,7 @@ module _ {W : Type 0} (got : W → Option (List ℕ)) (faults : W → ℕ) (plan
     unsent = s ∷ [];
     parts = refl;
     between = a;
-    wrote_sent = wrote_nothing a;
+    wrote_sent = wrote_nothing got faults plan a;
     greased = tt;
     stopped = inr ((λ e. cc), inr h);
   }
@@ -172,7 +131,7 @@ module _ {W : Type 0} (got : W → Option (List ℕ)) (faults : W → ℕ) (plan
     sent_then given =
         let k = subst (λ (s : Stream). SentAll got faults plan b c ys s rest) h.stands given in
         record {
-          wrote = subst (Wrote got faults plan a c) (sym (stanzas_text-append xs ys first)) (wrote_then a b c (stanzas_text xs first) (stanzas_text ys (behind_sends (length xs) first)) h.wrote k.wrote);
+          wrote = subst (Wrote got faults plan a c) (sym (stanzas_text-append xs ys first)) (wrote_then got faults plan a b c (stanzas_text xs first) (stanzas_text ys (behind_sends (length xs) first)) h.wrote k.wrote);
           stands = k.stands ∙ sym (behind_sends-append xs ys first);
           greased = AllAfterGrease-append xs ys first h.greased k.greased;
         }
@@ -182,13 +141,13 @@ module _ {W : Type 0} (got : W → Option (List ℕ)) (faults : W → ℕ) (plan
         let k = subst (λ (s : Stream). FailedAt got faults plan b c ys s rest) h.stands given in
         let behind : Stream = behind_sends (length xs) first in
         record {
-          wrote = subst (WrotePart got faults plan a c) (sym (stanzas_text-append xs ys first)) (part_then a b c (stanzas_text xs first) (stanzas_text ys behind) h.wrote k.wrote);
+          wrote = subst (WrotePart got faults plan a c) (sym (stanzas_text-append xs ys first)) (part_last got faults plan a b c (stanzas_text xs first) (stanzas_text ys behind) h.wrote k.wrote);
           sent = xs ++ k.sent;
           next = k.next;
           unsent = k.unsent;
           parts = ap (λ (t : List Stanza). xs ++ t) k.parts ∙ sym (append_assoc xs k.sent (k.next ∷ k.unsent));
           between = k.between;
-          wrote_sent = subst (Wrote got faults plan a k.between) (sym (stanzas_text-append xs k.sent first)) (wrote_then a b k.between (stanzas_text xs first) (stanzas_text k.sent behind) h.wrote k.wrote_sent);
+          wrote_sent = subst (Wrote got faults plan a k.between) (sym (stanzas_text-append xs k.sent first)) (wrote_then got faults plan a b k.between (stanzas_text xs first) (stanzas_text k.sent behind) h.wrote k.wrote_sent);
           failed = subst (λ (s : Stream). SendFailed got faults plan k.between c k.next s rest) (sym (behind_sends-append xs k.sent first)) k.failed;
         }
 
@@ -200,12 +159,12 @@ module _ {W : Type 0} (got : W → Option (List ℕ)) (faults : W → ℕ) (plan
           part = stanzas_text xs first ++ k.part;
           more = k.more;
           whole = stanzas_text-append xs ys first ∙ (ap (λ (t : List ℕ). stanzas_text xs first ++ t) k.whole ∙ sym (append_assoc (stanzas_text xs first) k.part k.more));
-          wrote = wrote_then a b c (stanzas_text xs first) k.part h.wrote k.wrote;
+          wrote = wrote_then got faults plan a b c (stanzas_text xs first) k.part h.wrote k.wrote;
           sent = xs ++ k.sent;
           unsent = k.unsent;
           parts = ap (λ (t : List Stanza). xs ++ t) k.parts ∙ sym (append_assoc xs k.sent k.unsent);
           between = k.between;
-          wrote_sent = subst (Wrote got faults plan a k.between) (sym (stanzas_text-append xs k.sent first)) (wrote_then a b k.between (stanzas_text xs first) (stanzas_text k.sent behind) h.wrote k.wrote_sent);
+          wrote_sent = subst (Wrote got faults plan a k.between) (sym (stanzas_text-append xs k.sent first)) (wrote_then got faults plan a b k.between (stanzas_text xs first) (stanzas_text k.sent behind) h.wrote k.wrote_sent);
           greased = AllAfterGrease-append xs k.sent first h.greased k.greased;
           stopped = subst (λ (s : Stream). (Wrote got faults plan k.between c [] × (rest ≡ s)) ⊎ ((k.unsent ≢ []) × SendRanOut got faults plan k.between c s rest)) (sym (behind_sends-append xs k.sent first)) k.stopped;
         }
@@ -221,7 +180,7 @@ module _ {W : Type 0} (got : W → Option (List ℕ)) (faults : W → ℕ) (plan
   module _ (a c : W) (xs zs : List Stanza) (stream rest : Stream) where
     failed_front : FailedAt got faults plan a c xs stream rest → FailedAt got faults plan a c (xs ++ zs) stream rest
     failed_front k = record {
-      wrote = subst (WrotePart got faults plan a c) (sym (stanzas_text-append xs zs stream)) (part_front a c (stanzas_text xs stream) (stanzas_text zs (behind_sends (length xs) stream)) k.wrote);
+      wrote = subst (WrotePart got faults plan a c) (sym (stanzas_text-append xs zs stream)) (part_front got faults plan a c (stanzas_text xs stream) (stanzas_text zs (behind_sends (length xs) stream)) k.wrote);
       sent = k.sent;
       next = k.next;
       unsent = k.unsent ++ zs;

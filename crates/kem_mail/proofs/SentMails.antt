@@ -29,7 +29,8 @@ use Rattle.kem_mail.specs.declared.error.SealMailError.{SealMailError}
 use Rattle.kem_mail.specs.declared.error.SealMailError.TheVariants.{NoMemory, XofExhausted, SealError, WriteFault}
 use Rattle.kem_mail.proofs.Greased.{is_sender_text, number_by, stanzas_by}
 use Rattle.kem_mail.proofs.Sealed.{follows, one_first, sealed-none, sealed-some, unsealed-each, unsealed-none, unsealed-some}
-use Rattle.kem_mail.proofs.Sends.{ran_out_nothing, refused_front, sends_then, sent_nothing, sent_then, wrote_nothing}
+use Rattle.kem_mail.proofs.Sends.{ran_out_nothing, refused_front, sends_then, sent_nothing, sent_then}
+use Rattle.age_format.proofs.Writing.{wrote_nothing}
 
 -- ---- a message of a list
 

@@ -15,7 +15,8 @@ use Rattle.kem_mail.specs.Sent.{AllAfterGrease, AreStanzas, RanOutAt, SealsMail,
 use Rattle.kem_mail.specs.declared.error.SealMailError.{SealMailError}
 use Rattle.kem_mail.specs.declared.error.SealMailError.TheVariants.{NoMemory, XofExhausted, SealError, WriteFault}
 use Rattle.kem_mail.proofs.Greased.{both_all}
-use Rattle.kem_mail.proofs.Sends.{stanzas_text-append, wrote_then}
+use Rattle.kem_mail.proofs.Sends.{stanzas_text-append}
+use Rattle.age_format.proofs.Writing.{wrote_then}
 
 pub no_stanzas : AreStanzas []
 no_stanzas = record { stanzas = []; each = tt; spelled = refl }

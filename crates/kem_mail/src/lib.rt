@@ -7,9 +7,6 @@ pub mod laws;
 mod list;
 mod open;
 mod seal;
-#[cfg(test)]
-mod tests;
-
 pub use by_seed::open_mail;
 pub use error::{MailError, SealMailError};
 pub use list::MessageList;

@@ -16,6 +16,3 @@ pub use error::DerError;
 pub use identifier::oid;
 pub use private_key::{from_pkcs8_der, to_pkcs8_der};
 pub use public_key::{from_public_key_der, to_public_key_der};
-
-#[cfg(test)]
-mod tests;

@@ -40,8 +40,6 @@ pub mod Seven
 pub mod ZetaTable
 -- the loop over the butterflies of a layer
 pub mod LayerLoop
--- the groups of a layer
-pub mod GroupLoop
 -- the loops over the rows of a layer and over the columns of two rows
 pub mod RowLoop
 -- layers over rows, and the layers of the transform that they make
@@ -54,8 +52,6 @@ pub mod Across
 pub mod Back
 -- seven layers back
 pub mod SevenBack
--- a list that is copied
-pub mod Copies
 -- lists that a loop fills
 pub mod Filled
 -- compression by a multiplier

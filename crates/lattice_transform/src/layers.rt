@@ -10,7 +10,7 @@ use module_lattice::{BaseField, Butterflies, Steps};
 use std::sync::ledger::Ledger;
 
 /// The butterflies of a layer.
-pub(crate) const BUTTERFLIES: usize = 128;
+const BUTTERFLIES: usize = 128;
 
 /// The transform of any values that butterflies can change, in seven layers of 128 butterflies.
 ///

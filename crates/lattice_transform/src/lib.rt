@@ -8,6 +8,3 @@ mod zetas;
 
 pub use arrays::{ntt, ntt_inverse};
 pub use layers::ntt_counted;
-
-#[cfg(test)]
-mod tests;

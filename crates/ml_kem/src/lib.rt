@@ -44,6 +44,3 @@ pub type DecapsulationKey1024<H> = DecapsulationKey<MlKem1024, H>;
 
 /// An encapsulation key of ML-KEM-1024.
 pub type EncapsulationKey1024<H> = EncapsulationKey<MlKem1024, H>;
-
-#[cfg(test)]
-mod tests;

@@ -36,8 +36,3 @@ pub use product_sums::ProductSums;
 pub use steps::Steps;
 pub use truncate::Truncate;
 pub use vector::Vector;
-
-#[cfg(test)]
-mod ring_tests;
-#[cfg(test)]
-mod tests;

@@ -184,6 +184,3 @@ fn split_word(d: usize, word: u128, out: &mut [u32])
         out[j] = ((word >> (d * j)) & mask) as u32;
     }
 }
-
-#[cfg(test)]
-mod tests;

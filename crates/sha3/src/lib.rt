@@ -12,6 +12,3 @@ mod squeeze;
 pub use hash::{Sha3_256, Sha3_512};
 pub use sha2::Digest;
 pub use shake::{ExtendableOutput, Shake128, Shake128Reader, Shake256, Shake256Reader, XofReader};
-
-#[cfg(test)]
-mod tests;

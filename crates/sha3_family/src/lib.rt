@@ -6,6 +6,3 @@ pub mod laws;
 mod sha3_hash;
 
 pub use sha3_hash::Sha3Hash;
-
-#[cfg(test)]
-mod tests;

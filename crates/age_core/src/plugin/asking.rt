@@ -17,9 +17,6 @@ use age_send::roll;
 use age_send::write::WriteFault;
 use rand_core::Rng;
 
-#[cfg(test)]
-mod tests;
-
 /// What a call comes to that ends a phase or goes on with it.
 type Outcome<T> = std::result::Result<T, PhaseError>;
 

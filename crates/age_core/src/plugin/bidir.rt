@@ -15,9 +15,6 @@ use age_format::outside::{Sink, Source};
 use age_send::write::WriteFault;
 use std::result::Result;
 
-#[cfg(test)]
-mod tests;
-
 /// What a handler answers to a command.
 #[derive(Debug, PartialEq, Eq, Drop)]
 pub enum Answer {

@@ -18,9 +18,6 @@ use std::marker::Model;
 use std::result::Result;
 use thiserror::Error;
 
-#[cfg(test)]
-mod tests;
-
 /// The tag of the stanza that ends a phase.
 pub(super) const DONE_TAG: &str = "done";
 

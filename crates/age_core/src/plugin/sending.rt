@@ -13,9 +13,6 @@ use age_format::outside::{Sink, Source};
 use age_send::{finish_to, send_stanza_to, send_to};
 use rand_core::Rng;
 
-#[cfg(test)]
-mod tests;
-
 /// A phase that sends over a connection, with grease from a random source.
 ///
 /// It can't be dropped: it is spent by [`UnidirSend::finish`] or by [`UnidirSend::abandon`].

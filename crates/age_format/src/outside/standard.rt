@@ -8,9 +8,6 @@ ghost use Rattle.std.specs.Io.KnownBytes.{Consumes, Keeps, Appends, IsAtEnd};
 ghost use Rattle.age_format.specs.Outside.{Rose, Gives, Gains, next_count};
 ghost use Rattle.age_format.specs.Adapters.{AppendsFront};
 
-#[cfg(test)]
-mod tests;
-
 use super::{Failed, Sink, Source};
 use std::io::{ErrorKind, Read, Write};
 

@@ -1,6 +1,5 @@
 use Rattle.std.proofs.Common.{◌+◌, ◌*◌, ◌≤◌, arith}
-use Rattle.lattice_transform.proofs.GroupLoop.{group-within}
-use Rattle.dsa_ring.proofs.GroupLoop.{butterflies-same, next-in-group, zeta-inside}
+use Rattle.dsa_ring.proofs.GroupLoop.{butterflies-same, next-in-group, zeta-inside, group-within}
 use Rattle.dsa_ring.proofs.arrays.make_group.Goals as goal
 
 pub zeta-turn-requires : goal.zeta-turn-requires

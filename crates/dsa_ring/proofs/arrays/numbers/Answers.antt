@@ -1,7 +1,7 @@
 use Rattle.std.proofs.Common.{ℕ, subst, sym, ◌∙◌, arith, rules}
 use Rattle.std.proofs.lemmas.List.{length-replicate, length-set}
 use Rattle.module_lattice.specs.Ring.{IsPolynomial}
-use Rattle.lattice_transform.proofs.Copies.{all-copied, one-more}
+use Rattle.dsa_ring.proofs.Copies.{all-copied, one-more}
 use Rattle.dsa_ring.proofs.arrays.numbers.Goals as goal
 
 pub loop-i-init : goal.loop-i-init

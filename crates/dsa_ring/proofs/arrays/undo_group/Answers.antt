@@ -1,6 +1,5 @@
 use Rattle.std.proofs.Common.{◌+◌, ◌*◌, ◌≤◌, arith}
-use Rattle.lattice_transform.proofs.GroupLoop.{group-within}
-use Rattle.dsa_ring.proofs.GroupLoop.{downward-zeta, inverse-same, next-back}
+use Rattle.dsa_ring.proofs.GroupLoop.{downward-zeta, inverse-same, next-back, group-within}
 use Rattle.dsa_ring.proofs.arrays.undo_group.Goals as goal
 
 pub zeta-turn-requires : goal.zeta-turn-requires

@@ -2,7 +2,7 @@ use Rattle.std.proofs.Common.{ℕ, List, [], subst}
 use Rattle.rand_core.specs.Stream.{fill_bytes}
 use Rattle.kem_mail.specs.Sealing.{Sealer, lattice_sealer}
 use Rattle.kem_mail.specs.Sent.{SealsMail}
-use Rattle.kem_mail.proofs.Sends.{wrote_nothing}
+use Rattle.age_format.proofs.Writing.{wrote_nothing}
 use Rattle.kem_mail.proofs.SentMails.{exhausted_matrix, sender_text_of}
 use Rattle.kem_mail.proofs.Wholes.{mail_stopped, no_stanzas}
 use Rattle.kem_mail.proofs.seal.seal_mail.Goals as goal

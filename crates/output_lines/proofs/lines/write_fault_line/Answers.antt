@@ -2,7 +2,7 @@ use Rattle.std.proofs.Common.{◌∷◌, [], ℕ, List, ◌++◌, subst, append_
 use Rattle.std.proofs.lemmas.Result.{err_from_is_err_and}
 use Rattle.age_format.specs.Outside.{Writes}
 use Rattle.output_lines.specs.Lines.{spaced}
-use Rattle.output_lines.proofs.Writes.{wrote_then, part_front, part_then, writes_last}
+use Rattle.age_format.proofs.Writing.{part_front, part_then, writes_last, wrote_then}
 use Rattle.output_lines.proofs.lines.write_fault_line.Goals as goal
 
 pub returns-in_err-write_all : goal.returns-in_err-write_all

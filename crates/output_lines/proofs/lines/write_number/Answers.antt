@@ -1,7 +1,7 @@
 use Rattle.std.proofs.Common.{◌∷◌, []}
 use Rattle.std.specs.Prelude.{decimal}
 use Rattle.std.proofs.lemmas.Result.{err_from_is_err_and}
-use Rattle.output_lines.proofs.Writes.{part_front}
+use Rattle.age_format.proofs.Writing.{part_front}
 use Rattle.output_lines.proofs.lines.write_number.Goals as goal
 
 pub returns-in_err-write_all : goal.returns-in_err-write_all

@@ -3,7 +3,8 @@ use Rattle.std.specs.Prelude.{decimal}
 use Rattle.std.proofs.lemmas.Result.{err_from_is_err_and}
 use Rattle.age_format.specs.Outside.{Wrote, WrotePart}
 use Rattle.output_lines.specs.Lines.{spaced}
-use Rattle.output_lines.proofs.Writes.{wrote_nothing, wrote_then, part_then, spaced_split, spaced_more}
+use Rattle.age_format.proofs.Writing.{part_then, wrote_nothing, wrote_then}
+use Rattle.output_lines.proofs.Writes.{spaced_split, spaced_more}
 use Rattle.output_lines.proofs.lines.write_numbers.Goals as goal
 
 pub loop-number-init : goal.loop-number-init
