@@ -6,6 +6,7 @@ ghost use Rattle.std.specs.String.{string_bytes};
 
 mod borrowed;
 pub mod read;
+
 pub use borrowed::AgeStanza;
 pub use read::{ReadRefused, is_arbitrary_string};
 

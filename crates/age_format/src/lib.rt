@@ -8,5 +8,6 @@ pub mod outside;
 mod parse;
 mod reader;
 mod scan;
+
 pub use error::PhaseError;
 pub use reader::StanzaReader;

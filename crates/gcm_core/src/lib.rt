@@ -10,5 +10,6 @@ mod ghash;
 mod hash_key;
 pub mod laws;
 mod nibbles;
+
 pub use aes_gcm::{AesGcm, AesGcm128Impl, AesGcm256Impl};
 pub use error::{NotAuthentic, TooLong};

@@ -7,6 +7,7 @@ pub mod laws;
 mod list;
 mod open;
 mod seal;
+
 pub use by_seed::open_mail;
 pub use error::{MailError, SealMailError};
 pub use list::MessageList;
