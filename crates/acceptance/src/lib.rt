@@ -6,6 +6,8 @@ mod mails;
 #[cfg(test)]
 mod runs;
 #[cfg(test)]
+mod sealing;
+#[cfg(test)]
 mod seals;
 #[cfg(test)]
 mod tests;

@@ -1,0 +1,79 @@
+//! Texts of BIP 173 and of other programs, and one call of each function.
+
+use bech32_long::{BadHrp, Bech32Error, Hrp, decode, encode, encode_to_slice, encoded_len};
+use std::test::Fail;
+
+// A text, its part, its bytes, and the text that is written of them: two of BIP 173 in lower case and one in
+// upper case, one with leftover bits that are set, and a recipient that age-keygen wrote.
+const READ: [(&str, &str, &[u8], &str); 5] = [
+    ("a12uel5l", "a", &[], "a12uel5l"),
+    ("A12UEL5L", "a", &[], "a12uel5l"),
+    (
+        "abcdef1qpzry9x8gf2tvdw0s3jn54khce6mua7lmqqqxw",
+        "abcdef",
+        &[
+            0x00, 0x44, 0x32, 0x14, 0xc7, 0x42, 0x54, 0xb6, 0x35, 0xcf, 0x84, 0x65, 0x3a, 0x56,
+            0xd7, 0xc6, 0x75, 0xbe, 0x77, 0xdf,
+        ],
+        "abcdef1qpzry9x8gf2tvdw0s3jn54khce6mua7lmqqqxw",
+    ),
+    ("x1llssn9at", "x", &[0xff], "x1lu7rxnn5"),
+    (
+        "age1d7z8fqhmpcw0z5h0rgvaxjkkrshg0qd6drrxul77l3c23l97vysq7de4lj",
+        "age",
+        &[
+            0x6f, 0x84, 0x74, 0x82, 0xfb, 0x0e, 0x1c, 0xf1, 0x52, 0xef, 0x1a, 0x19, 0xd3, 0x4a,
+            0xd6, 0x1c, 0x2e, 0x87, 0x81, 0xba, 0x68, 0xc6, 0x6e, 0x7f, 0xde, 0xfc, 0x70, 0xa8,
+            0xfc, 0xbe, 0x61, 0x20,
+        ],
+        "age1d7z8fqhmpcw0z5h0rgvaxjkkrshg0qd6drrxul77l3c23l97vysq7de4lj",
+    ),
+];
+
+#[test]
+fn reads_and_writes_texts(rt: HostRuntime) -> Result<(), Fail> {
+    for (text, part, bytes, written) in READ {
+        let (hrp, read) = decode(rt.alloc(), text)?;
+        assert_eq!(rt; hrp.as_str(), part);
+        assert_eq!(rt; read.as_slice(), bytes);
+        let text = encode(rt.alloc(), &hrp, bytes)?;
+        assert_eq!(rt; text.as_str(), written);
+    }
+    Ok(())
+}
+
+// Texts and why they are refused.
+const REFUSED: [(&str, Bech32Error); 5] = [
+    ("A1G7SGD8", Bech32Error::BadChecksum),
+    ("pzry9x0s0muk", Bech32Error::NoSeparator),
+    ("1pzry9x0s0muk", Bech32Error::BadHrp),
+    ("x1b4n0q5v", Bech32Error::BadCharacter(2)),
+    ("a12UEL5L", Bech32Error::MixedCase),
+];
+
+#[test]
+fn refuses_texts(rt: HostRuntime) {
+    for (text, why) in REFUSED {
+        match decode(rt.alloc(), text) {
+            Ok(_) => assert!(rt; false, "{text}"),
+            Err(error) => assert_eq!(rt; error, why),
+        }
+    }
+}
+
+#[test]
+fn writes_into_a_slice(rt: HostRuntime) -> Result<(), Fail> {
+    let hrp = Hrp::parse("X")?;
+    let mut out = vec![in rt.alloc(); 0; encoded_len(&hrp, 1)]?;
+    encode_to_slice(&hrp, &[0xff], &mut out);
+    assert_eq!(rt; out.as_slice(), b"x1lu7rxnn5".as_slice());
+    Ok(())
+}
+
+#[test]
+fn compares_parts(rt: HostRuntime) -> Result<(), Fail> {
+    assert!(rt; Hrp::parse("A-1")? == Hrp::parse("a-1")?);
+    assert!(rt; Hrp::parse("a")? != Hrp::parse("b")?);
+    assert!(rt; Hrp::parse("aB") == Err(BadHrp));
+    Ok(())
+}
