@@ -33,7 +33,7 @@ use Rattle.mail_commands.proofs.Dues.{seals_end}
 use Rattle.mail_commands.proofs.Inputs.{Lost_weaker}
 use Rattle.mail_commands.proofs.Runs.{all_taken}
 use Rattle.mail_commands.proofs.SourceBytes.{source_bytes}
-use Rattle.output_lines.proofs.Writes.{wrote_then}
+use Rattle.age_format.proofs.Writing.{wrote_then}
 
 -- ---- what sealing comes to
 

@@ -66,13 +66,17 @@ fn counted_step<L: Ledger>(values: &mut Polynomial<BaseField>, zeta: Elem<BaseFi
     first_step(values, zeta, &mut steps);
 }
 
-// With 17^64, at a polynomial of zeros but for a 1 at place 128.
-#[test]
-fn one_butterfly(rt: HostRuntime) {
+// The polynomial of zeros but for a 1 at place 128.
+fn x_to_128() -> Polynomial<BaseField> {
     let mut coefficients = [0; 256];
     coefficients[128] = 1;
-    assert!(rt; coefficients.iter().all(|x| *x < 3329));
-    let mut f = Polynomial::new(coefficients);
+    Polynomial::new(coefficients)
+}
+
+// With 17^64, at that polynomial.
+#[test]
+fn one_butterfly(rt: HostRuntime) {
+    let mut f = x_to_128();
     counted_step::<Brand>(&mut f, Elem::new(1729), Blank::new(1));
     assert!(rt; f.coefficient(0).get() == 1729 && f.coefficient(128).get() == 1600);
 }

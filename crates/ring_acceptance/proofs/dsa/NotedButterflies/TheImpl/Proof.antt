@@ -6,9 +6,9 @@ use Rattle.ring_acceptance.proofs.dsa.NotedButterflies.butterfly.Met
 use Rattle.ring_acceptance.proofs.dsa.NotedButterflies.butterfly.Symbol
 use Rattle.ring_acceptance.proofs.dsa.Noted.TheLaws
 use Rattle.module_lattice.specs.contracts.butterflies.Butterflies.butterfly as asked
-use Rattle.dsa_ring.specs.contracts.tests.NotedButterflies.TheImpl
-use Rattle.dsa_ring.specs.contracts.tests.NotedButterflies.butterfly as given
-use Rattle.dsa_ring.specs.contracts.tests.Noted
+use Rattle.ring_acceptance.specs.contracts.dsa.NotedButterflies.TheImpl
+use Rattle.ring_acceptance.specs.contracts.dsa.NotedButterflies.butterfly as given
+use Rattle.ring_acceptance.specs.contracts.dsa.Noted
 use base.Logic
 use contract.BorrowLft
 use contract.Running
