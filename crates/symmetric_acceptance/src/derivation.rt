@@ -2,8 +2,9 @@
 //! language. Bytes are in hex.
 
 use hkdf_core::laws::empty_salt_is_zeros;
-use hkdf_core::{HashSha256, Hkdf, HkdfExtract, HkdfHash, Hmac, MAX_OUTPUT_BLOCKS};
+use hkdf_core::{DigestBytes, HashSha256, Hkdf, HkdfExtract, HkdfHash, Hmac, MAX_OUTPUT_BLOCKS};
 use std::alloc::Global;
+use std::process::Abort;
 use std::test::Fail;
 
 mod long_digests;
@@ -44,6 +45,71 @@ fn expand<T: HkdfHash>(
     let mut out = vec![in alloc; 0; len]?;
     hkdf.expand(hex::decode(alloc, info)?.as_slice(), out.as_mut_slice())?;
     Ok(out)
+}
+
+// Whether the text of a case has its code.
+fn has_code<T: HkdfHash>(alloc: Global, case: &Code) -> Result<bool, Fail> {
+    let (_, key, text, want) = *case;
+    Ok(hmac::<T>(alloc, key, text)?.as_str() == want)
+}
+
+// That the text of each case has its code.
+fn has_codes<T: HkdfHash>(rt: &impl Abort, alloc: Global, cases: &[Code]) -> Result<(), Fail> {
+    for case in cases {
+        assert!(rt; has_code::<T>(alloc, case)?, "{}", case.0);
+    }
+    Ok(())
+}
+
+// Whether an expansion puts this out.
+fn puts_out<T: HkdfHash>(
+    alloc: Global,
+    hkdf: &Hkdf<T>,
+    info: &str,
+    len: usize,
+    want: &str,
+) -> Result<bool, Fail> {
+    let out = expand(alloc, hkdf, info, len)?;
+    Ok(hex::encode(alloc, out.as_slice())?.as_str() == want)
+}
+
+// Whether a case has its output.
+fn has_output<T: HkdfHash>(alloc: Global, case: &Output) -> Result<bool, Fail> {
+    let (salt, ikm, info, len, want) = *case;
+    let hkdf = Hkdf::<T>::new(
+        hex::decode(alloc, salt)?.as_slice(),
+        hex::decode(alloc, ikm)?.as_slice(),
+    );
+    puts_out(alloc, &hkdf, info, len, want)
+}
+
+// That each case has its output.
+fn has_outputs<T: HkdfHash>(rt: &impl Abort, alloc: Global, cases: &[Output]) -> Result<(), Fail> {
+    for case in cases {
+        assert!(rt; has_output::<T>(alloc, case)?, "{} bytes", case.3);
+    }
+    Ok(())
+}
+
+// Whether an output of this length is refused, and nothing is written.
+fn is_refused<T: HkdfHash>(alloc: Global, hkdf: &Hkdf<T>, len: usize) -> Result<bool, Fail> {
+    let mut refused = vec![in alloc; 7; len]?;
+    let is_err = hkdf.expand(&[], refused.as_mut_slice()).is_err();
+    Ok(is_err && refused.iter().all(|byte| *byte == 7))
+}
+
+// Whether the longest output has this SHA-256, and one byte more is refused.
+fn is_longest<T: HkdfHash>(
+    alloc: Global,
+    salt: &str,
+    info: &str,
+    len: usize,
+    want: &str,
+) -> Result<bool, Fail> {
+    let hkdf = Hkdf::<T>::new(hex::decode(alloc, salt)?.as_slice(), &[]);
+    let out = expand(alloc, &hkdf, info, len)?;
+    let is_digest = digest::<HashSha256>(alloc, out.as_slice())?.as_str() == want;
+    Ok(is_refused(alloc, &hkdf, len.saturating_add(1))? && is_digest)
 }
 
 // Codes by SHA-256.
@@ -102,26 +168,56 @@ fn codes_by_sha256() -> &'static [Code] {
 
 #[test]
 fn hmac_of_short_and_long_keys(rt: HostRuntime) -> Result<(), Fail> {
-    for &(name, key, text, want) in codes_by_sha256() {
-        let code = hmac::<HashSha256>(rt.alloc(), key, text)?;
-        assert_eq!(rt; code.as_str(), want, "{name}");
+    has_codes::<HashSha256>(&rt, rt.alloc(), codes_by_sha256())
+}
+
+// The HMAC of a text that is fed byte by byte.
+fn hmac_by_bytes<T: HkdfHash>(alloc: Global, key: &[u8], text: &[u8]) -> Result<String, Fail> {
+    let mut mac = Hmac::<T>::new(key);
+    for byte in text {
+        mac.update(&[*byte]);
     }
-    Ok(())
+    Ok(hex::encode(alloc, mac.finalize().as_slice())?)
 }
 
 // RFC 4231, case 2.
 #[test]
 fn hmac_fed_byte_by_byte(rt: HostRuntime) -> Result<(), Fail> {
-    let mut mac = Hmac::<HashSha256>::new(b"Jefe");
-    for byte in b"what do ya want for nothing?" {
-        mac.update(&[*byte]);
-    }
-    let code = hex::encode(rt.alloc(), mac.finalize().as_slice())?;
-    assert_eq!(rt;
-        code.as_str(),
-        "5bdcc146bf60754e6a042426089575c75a003f089d2739839dec58b964ec3843"
+    let code = hmac_by_bytes::<HashSha256>(rt.alloc(), b"Jefe", b"what do ya want for nothing?")?;
+    assert!(rt;
+        code.as_str() == "5bdcc146bf60754e6a042426089575c75a003f089d2739839dec58b964ec3843",
+        "{code}"
     );
     Ok(())
+}
+
+// The pseudorandom key of key material in two pieces, the expansion from it, and that from its bytes.
+fn extract<T: HkdfHash>(salt: &[u8], front: &[u8], back: &[u8]) -> (DigestBytes, Hkdf<T>, Hkdf<T>) {
+    let mut extraction = HkdfExtract::<T>::new(salt);
+    extraction.input_ikm(front);
+    extraction.input_ikm(back);
+    let (prk, extracted) = extraction.finalize();
+    let keyed = Hkdf::<T>::from_prk(prk.as_slice());
+    (prk, extracted, keyed)
+}
+
+// Whether an expansion puts this out under the info string of RFC 5869, case 1, whole and in pieces.
+fn puts_out_both_ways<T: HkdfHash>(
+    alloc: Global,
+    hkdf: &Hkdf<T>,
+    want: &str,
+) -> Result<bool, Fail> {
+    let mut out = [0; 42];
+    hkdf.expand_five(
+        &[0xf0, 0xf1],
+        &[],
+        &[0xf2, 0xf3, 0xf4, 0xf5, 0xf6],
+        &[0xf7],
+        &[0xf8, 0xf9],
+        &mut out,
+    )?;
+    let is_same = hex::encode(alloc, out)?.as_str() == want;
+    Ok(puts_out(alloc, hkdf, "f0f1f2f3f4f5f6f7f8f9", 42, want)? && is_same)
 }
 
 // RFC 5869, case 1, by each way of making an expansion.
@@ -130,36 +226,23 @@ fn hkdf_of_rfc_5869(rt: HostRuntime) -> Result<(), Fail> {
     let alloc = rt.alloc();
     let salt = hex::decode(alloc, "000102030405060708090a0b0c")?;
     let ikm = [0x0b; 22];
-    let info = "f0f1f2f3f4f5f6f7f8f9";
-    let want =
-        "3cb25f25faacd57a90434f64d0362f2a2d2d0a90cf1a5a4c5db02d56ecc4c5bf34007208d5b887185865";
-
-    let mut extraction = HkdfExtract::<HashSha256>::new(salt.as_slice());
-    extraction.input_ikm(&ikm[..5]);
-    extraction.input_ikm(&ikm[5..]);
-    let (prk, extracted) = extraction.finalize();
-    assert_eq!(rt;
-        hex::encode(alloc, prk.as_slice())?.as_str(),
-        "077709362c2e32df0ddc3f0dc47bba6390b6c73bb50f9c3122ec844ad7c2b3e5"
+    let (prk, extracted, keyed) = extract::<HashSha256>(salt.as_slice(), &ikm[..5], &ikm[5..]);
+    let prk = hex::encode(alloc, prk.as_slice())?;
+    assert!(rt;
+        prk.as_str() == "077709362c2e32df0ddc3f0dc47bba6390b6c73bb50f9c3122ec844ad7c2b3e5",
+        "{prk}"
     );
 
     let made = Hkdf::<HashSha256>::new(salt.as_slice(), &ikm);
-    let keyed = Hkdf::<HashSha256>::from_prk(prk.as_slice());
     for hkdf in [&extracted, &made, &keyed] {
-        let out = expand(alloc, hkdf, info, 42)?;
-        assert_eq!(rt; hex::encode(alloc, out.as_slice())?.as_str(), want);
+        assert!(rt;
+            puts_out_both_ways(
+                alloc,
+                hkdf,
+                "3cb25f25faacd57a90434f64d0362f2a2d2d0a90cf1a5a4c5db02d56ecc4c5bf34007208d5b887185865"
+            )?
+        );
     }
-
-    let mut out = [0; 42];
-    made.expand_five(
-        &[0xf0, 0xf1],
-        &[],
-        &[0xf2, 0xf3, 0xf4, 0xf5, 0xf6],
-        &[0xf7],
-        &[0xf8, 0xf9],
-        &mut out,
-    )?;
-    assert_eq!(rt; hex::encode(alloc, out)?.as_str(), want);
     Ok(())
 }
 
@@ -187,57 +270,36 @@ fn outputs_by_sha256() -> &'static [Output] {
 
 #[test]
 fn hkdf_of_the_model(rt: HostRuntime) -> Result<(), Fail> {
-    let alloc = rt.alloc();
-    for &(salt, ikm, info, len, want) in outputs_by_sha256() {
-        let hkdf = Hkdf::<HashSha256>::new(
-            hex::decode(alloc, salt)?.as_slice(),
-            hex::decode(alloc, ikm)?.as_slice(),
-        );
-        let out = expand(alloc, &hkdf, info, len)?;
-        assert_eq!(rt;
-            hex::encode(alloc, out.as_slice())?.as_str(),
-            want,
-            "{len} bytes"
-        );
-    }
-    Ok(())
+    has_outputs::<HashSha256>(&rt, rt.alloc(), outputs_by_sha256())
+}
+
+// Whether no salt gives what 32 zeros give: by the law, and when they are asked.
+fn is_no_salt_zeros<T: HkdfHash>(alloc: Global) -> Result<bool, Fail> {
+    empty_salt_is_zeros::<T>();
+    let of_none = expand(alloc, &Hkdf::<T>::new(&[], b"ikm"), "", 32)?;
+    let of_zeros = expand(alloc, &Hkdf::<T>::new(&[0; 32], b"ikm"), "", 32)?;
+    Ok(of_none.as_slice() == of_zeros.as_slice())
 }
 
 // The law of the empty salt at SHA-256, and what it says of one salt.
 #[test]
 fn no_salt_is_zeros(rt: HostRuntime) -> Result<(), Fail> {
-    empty_salt_is_zeros::<HashSha256>();
-    let of_none = expand(rt.alloc(), &Hkdf::<HashSha256>::new(&[], b"ikm"), "", 32)?;
-    let of_zeros = expand(
-        rt.alloc(),
-        &Hkdf::<HashSha256>::new(&[0; 32], b"ikm"),
-        "",
-        32,
-    )?;
-    assert_eq!(rt; of_none.as_slice(), of_zeros.as_slice());
+    assert!(rt; is_no_salt_zeros::<HashSha256>(rt.alloc())?);
     Ok(())
 }
 
 // The longest output by its SHA-256, and one byte more.
 #[test]
 fn the_longest_output(rt: HostRuntime) -> Result<(), Fail> {
-    let alloc = rt.alloc();
-    let salt = hex::decode(
-        alloc,
-        "1df222289c536885ddeb719207f0372220e793973f7fd64998c43982c5d52ad2d2ce6e68af30ac17",
-    )?;
-    let info =
-        "c87b59ec87ec06d39d3f38fa02e69f045cca76fedc8e41593e2c771ff62959c16ceba3c4f804b778f5a33db89be50b438e229526";
-    let hkdf = Hkdf::<HashSha256>::new(salt.as_slice(), &[]);
-    let longest = MAX_OUTPUT_BLOCKS * HashSha256::DIGEST_SIZE;
-    assert_eq!(rt; longest, 8160);
-
-    let out = expand(alloc, &hkdf, info, longest)?;
-    let want = "84f39d9660ba6a318e0f0cf34c17a98644f29bc2cc7a8a89515464f1ccf2a1c9";
-    assert_eq!(rt; digest::<HashSha256>(alloc, out.as_slice())?.as_str(), want);
-
-    let mut refused = vec![in alloc; 7; 8161]?;
-    assert!(rt; hkdf.expand(&[], refused.as_mut_slice()).is_err());
-    assert!(rt; refused.iter().all(|byte| *byte == 7));
+    assert!(rt; MAX_OUTPUT_BLOCKS * HashSha256::DIGEST_SIZE == 8160);
+    assert!(rt;
+        is_longest::<HashSha256>(
+            rt.alloc(),
+            "1df222289c536885ddeb719207f0372220e793973f7fd64998c43982c5d52ad2d2ce6e68af30ac17",
+            "c87b59ec87ec06d39d3f38fa02e69f045cca76fedc8e41593e2c771ff62959c16ceba3c4f804b778f5a33db89be50b438e229526",
+            8160,
+            "84f39d9660ba6a318e0f0cf34c17a98644f29bc2cc7a8a89515464f1ccf2a1c9"
+        )?
+    );
     Ok(())
 }

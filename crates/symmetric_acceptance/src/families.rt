@@ -84,10 +84,8 @@ fn first_blocks<H: KemHash>(rho: &[u8; 32]) -> [u8; 504] {
 fn first_blocks_of_xof(rt: HostRuntime) {
     let blocks = first_blocks::<Sha2Hash>(RHO);
     for n in 0..3 {
-        assert_eq!(rt;
-            &blocks[168 * n..168 * n + 168],
-            Sha2Hash::xof_block(RHO, 255, 254, n as u8).as_slice()
-        );
+        let block = Sha2Hash::xof_block(RHO, 255, 254, n as u8);
+        assert!(rt; &blocks[168 * n..168 * n + 168] == block.as_slice());
     }
 }
 

@@ -203,7 +203,7 @@ impl Aead {
             middle.copy_from_slice(key);
             return Aead::Middle(AesGcm::new(&middle));
         }
-        assert_eq!(rt; key.len(), 32);
+        assert!(rt; key.len() == 32);
         let mut long = [0; 32];
         long.copy_from_slice(key);
         Aead::Long(AesGcm256Impl::new(&long))
@@ -226,28 +226,42 @@ impl Aead {
     }
 }
 
+// Whether a text is sealed to this ciphertext and this tag.
+fn seals(
+    aead: &Aead,
+    case: &Case,
+    buf: &mut [u8],
+    made: &mut [u8; 16],
+    want: (&[u8], &[u8]),
+) -> bool {
+    aead.seal(case, buf, made).is_ok() && &*buf == want.0 && made.as_slice() == want.1
+}
+
+// Whether a ciphertext stays as it is under a tag with one bit changed.
+fn refuses(aead: &Aead, case: &Case, buf: &mut [u8], made: &[u8; 16], ciphertext: &[u8]) -> bool {
+    let mut other = *made;
+    other[15] ^= 1;
+    aead.open(case, buf, &other) == Err(NotAuthentic) && &*buf == ciphertext
+}
+
+// Whether a ciphertext is opened to this text.
+fn opens(aead: &Aead, case: &Case, buf: &mut [u8], made: &[u8; 16], text: &[u8]) -> bool {
+    aead.open(case, buf, made).is_ok() && &*buf == text
+}
+
 fn seals_and_opens(rt: &impl Abort, case: &Case) {
     let text_len = case.text.len();
     assert!(rt; text_len <= ROOM);
-    assert_eq!(rt; case.sealed.len(), text_len + 16);
+    assert!(rt; case.sealed.len() == text_len + 16);
     let (ciphertext, tag) = case.sealed.split_at(text_len);
     let aead = Aead::new(rt, case.key);
     let mut room = [0; ROOM];
     let buf = &mut room[..text_len];
     buf.copy_from_slice(case.text);
-
     let mut made = [0; 16];
-    assert!(rt; aead.seal(case, buf, &mut made).is_ok());
-    assert_eq!(rt; &*buf, ciphertext);
-    assert_eq!(rt; made.as_slice(), tag);
-
-    let mut other = made;
-    other[15] ^= 1;
-    assert_eq!(rt; aead.open(case, buf, &other), Err(NotAuthentic));
-    assert_eq!(rt; &*buf, ciphertext);
-
-    assert!(rt; aead.open(case, buf, &made).is_ok());
-    assert_eq!(rt; &*buf, case.text);
+    assert!(rt; seals(&aead, case, buf, &mut made, (ciphertext, tag)));
+    assert!(rt; refuses(&aead, case, buf, &made, ciphertext));
+    assert!(rt; opens(&aead, case, buf, &made, case.text));
 }
 
 #[test]
@@ -264,5 +278,5 @@ fn laws_can_be_called(rt: HostRuntime) {
     laws::block_products();
     laws::counter_wraps();
     // The example of FIPS 197, section 5.1.1.
-    assert_eq!(rt; laws::s_box_table()[0x53], 0xed);
+    assert!(rt; laws::s_box_table()[0x53] == 0xed);
 }

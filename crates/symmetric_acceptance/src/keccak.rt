@@ -4,6 +4,7 @@
 use sha2::Sha256;
 use sha3::{Digest, ExtendableOutput, Sha3_256, Sha3_512, Shake128, Shake256, XofReader, laws};
 use std::alloc::Global;
+use std::convert::AsSlice;
 use std::test::Fail;
 
 // A message, its digests, and the SHA-256 of 400 bytes of its outputs.
@@ -63,22 +64,17 @@ fn cases() -> &'static [Case] {
     ]
 }
 
-// The digest of a message that comes in two pieces.
-fn sha3_256(alloc: Global, message: &[u8]) -> Result<String, Fail> {
+// The digest of a message that comes in two pieces, between which a copy goes on with another message.
+fn digest<D: Digest + Clone>(alloc: Global, message: &[u8]) -> Result<String, Fail>
+where
+    D::Output: AsSlice<u8> + Drop,
+{
     let (front, back) = message.split_at(message.len() / 3);
-    let mut hasher = Sha3_256::new();
+    let mut hasher = D::new();
     hasher.update(front);
     hasher.clone()?.update(b"another message");
     hasher.update(back);
-    Ok(hex::encode(alloc, &hasher.finalize())?)
-}
-
-fn sha3_512(alloc: Global, message: &[u8]) -> Result<String, Fail> {
-    let (front, back) = message.split_at(message.len() / 3);
-    let mut hasher = Sha3_512::new();
-    hasher.update(front);
-    hasher.update(back);
-    Ok(hex::encode(alloc, &hasher.finalize())?)
+    Ok(hex::encode(alloc, hasher.finalize())?)
 }
 
 // The SHA-256 of the first 400 bytes of an output that is read in pieces.
@@ -100,28 +96,52 @@ where
     Ok(hex::encode(alloc, &Sha256::digest(&out))?)
 }
 
+// Whether a case has its digests.
+fn has_digests(alloc: Global, case: &Case) -> Result<bool, Fail> {
+    let message = hex::decode(alloc, case.message)?;
+    let short = digest::<Sha3_256>(alloc, message.as_slice())?;
+    let long = digest::<Sha3_512>(alloc, message.as_slice())?;
+    Ok(short.as_str() == case.sha3_256 && long.as_str() == case.sha3_512)
+}
+
 #[test]
 fn digests(rt: HostRuntime) -> Result<(), Fail> {
     for case in cases() {
-        let message = hex::decode(rt.alloc(), case.message)?;
-        let short = sha3_256(rt.alloc(), message.as_slice())?;
-        assert_eq!(rt; short.as_str(), case.sha3_256);
-        let long = sha3_512(rt.alloc(), message.as_slice())?;
-        assert_eq!(rt; long.as_str(), case.sha3_512);
+        assert!(rt; has_digests(rt.alloc(), case)?, "{}", case.message);
     }
     Ok(())
+}
+
+// Whether a case has its outputs.
+fn has_outputs(alloc: Global, case: &Case) -> Result<bool, Fail> {
+    let message = hex::decode(alloc, case.message)?;
+    let of_128 = output::<Shake128>(alloc, message.as_slice())?;
+    let of_256 = output::<Shake256>(alloc, message.as_slice())?;
+    Ok(of_128.as_str() == case.shake128 && of_256.as_str() == case.shake256)
 }
 
 #[test]
 fn outputs(rt: HostRuntime) -> Result<(), Fail> {
     for case in cases() {
-        let message = hex::decode(rt.alloc(), case.message)?;
-        let of_128 = output::<Shake128>(rt.alloc(), message.as_slice())?;
-        assert_eq!(rt; of_128.as_str(), case.shake128);
-        let of_256 = output::<Shake256>(rt.alloc(), message.as_slice())?;
-        assert_eq!(rt; of_256.as_str(), case.shake256);
+        assert!(rt; has_outputs(rt.alloc(), case)?, "{}", case.message);
     }
     Ok(())
+}
+
+// How hash functions of an empty message are shown.
+fn shown(alloc: Global) -> Result<String, Fail> {
+    let (short, long) = (Sha3_256::default(), Sha3_512::default().clone()?);
+    Ok(format!(in alloc; "{short:?} {long:?}")?)
+}
+
+// The first two bytes of the output of the empty message.
+fn output_of_nothing<X: ExtendableOutput + Default>() -> [u8; 2]
+where
+    X::Reader: XofReader,
+{
+    let mut out = [0; 2];
+    X::default().finalize_xof().read(&mut out);
+    out
 }
 
 #[test]
@@ -132,18 +152,13 @@ fn other_calls(rt: HostRuntime) -> Result<(), Fail> {
     laws::bytes();
     laws::outputs_are_fronts();
     laws::worked_permutation();
-    assert_eq!(rt; Sha3_256::output_size(), 32);
-    assert_eq!(rt; Sha3_512::output_size(), 64);
-    let empty = format!(in rt.alloc();
-        "{:?} {:?}",
-        Sha3_256::default(),
-        Sha3_512::default().clone()?
-    )?;
-    assert_eq!(rt; empty.as_str(), "Sha3_256 { ... } Sha3_512 { ... }");
-    let mut same = [0; 2];
-    Shake128::default().finalize_xof().read(&mut same);
-    assert_eq!(rt; same, [0x7f, 0x9c]);
-    Shake256::default().finalize_xof().read(&mut same);
-    assert_eq!(rt; same, [0x46, 0xb9]);
+    assert!(rt; Sha3_256::output_size() == 32 && Sha3_512::output_size() == 64);
+    let empty = shown(rt.alloc())?;
+    assert!(rt;
+        empty.as_str() == "Sha3_256 { ... } Sha3_512 { ... }",
+        "{empty}"
+    );
+    assert!(rt; output_of_nothing::<Shake128>() == [0x7f, 0x9c]);
+    assert!(rt; output_of_nothing::<Shake256>() == [0x46, 0xb9]);
     Ok(())
 }

@@ -73,7 +73,7 @@ fn first_blocks<H: KemHash>(seed: &[u8; 32]) -> [u8; 504] {
 fn xof_by_its_blocks(rt: HostRuntime) {
     let blocks = first_blocks::<Sha3Hash>(SEED);
     for n in 0..3 {
-        assert_eq!(rt; &blocks[168 * n..168 * n + 168], FIRST_BLOCKS[n].as_slice());
+        assert!(rt; &blocks[168 * n..168 * n + 168] == FIRST_BLOCKS[n].as_slice());
     }
     assert!(rt; Sha3Hash::xof_block(SEED, 1, 3, 2) == *FIRST_BLOCKS[2]);
     assert!(rt; Sha3Hash::xof_block(SEED, 1, 3, 15) == *LAST_BLOCK);

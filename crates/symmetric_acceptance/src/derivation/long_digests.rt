@@ -1,9 +1,9 @@
 //! The cases of the longer hash functions: HMAC from RFC 4231, and keys about the length of a block
 //! and expansions of an independent model. RFC 5869 has no cases for them.
 
-use super::{Code, Output, digest, expand, hmac};
+use super::{Code, Output, has_codes, has_outputs, is_longest};
 use hkdf_core::laws::{most_output_blocks, sizes_of_sha2};
-use hkdf_core::{HashSha256, HashSha384, HashSha512, Hkdf, HkdfHash, MAX_OUTPUT_BLOCKS};
+use hkdf_core::{HashSha256, HashSha384, HashSha512, HkdfHash, MAX_OUTPUT_BLOCKS};
 use std::test::Fail;
 
 // Codes by SHA-384.
@@ -44,11 +44,7 @@ fn codes_by_sha384() -> &'static [Code] {
 
 #[test]
 fn hmac_by_sha384(rt: HostRuntime) -> Result<(), Fail> {
-    for &(name, key, text, want) in codes_by_sha384() {
-        let code = hmac::<HashSha384>(rt.alloc(), key, text)?;
-        assert_eq!(rt; code.as_str(), want, "{name}");
-    }
-    Ok(())
+    has_codes::<HashSha384>(&rt, rt.alloc(), codes_by_sha384())
 }
 
 // Outputs by SHA-384.
@@ -74,42 +70,22 @@ fn outputs_by_sha384() -> &'static [Output] {
 
 #[test]
 fn hkdf_by_sha384(rt: HostRuntime) -> Result<(), Fail> {
-    let alloc = rt.alloc();
-    for &(salt, ikm, info, len, want) in outputs_by_sha384() {
-        let hkdf = Hkdf::<HashSha384>::new(
-            hex::decode(alloc, salt)?.as_slice(),
-            hex::decode(alloc, ikm)?.as_slice(),
-        );
-        let out = expand(alloc, &hkdf, info, len)?;
-        assert_eq!(rt;
-            hex::encode(alloc, out.as_slice())?.as_str(),
-            want,
-            "{len} bytes"
-        );
-    }
-    Ok(())
+    has_outputs::<HashSha384>(&rt, rt.alloc(), outputs_by_sha384())
 }
 
 // The longest output by its SHA-256, and one byte more.
 #[test]
 fn the_longest_output_by_sha384(rt: HostRuntime) -> Result<(), Fail> {
-    let alloc = rt.alloc();
-    let salt = hex::decode(
-        alloc,
-        "e5b5ac5b912d05fe4d1515999b2500432a6a3361b1027691fd708cff354f6aa1f43b8fb839f7fddaa03b934b09e7adbf0bb2c81d5a608f4d509fed8b",
-    )?;
-    let info = "db7a25e77084d58f35aef7740f7138469a";
-    let hkdf = Hkdf::<HashSha384>::new(salt.as_slice(), &[]);
-    let longest = MAX_OUTPUT_BLOCKS * HashSha384::DIGEST_SIZE;
-    assert_eq!(rt; longest, 12240);
-
-    let out = expand(alloc, &hkdf, info, longest)?;
-    let want = "8823da3f3efa08423c200ccff1fb5fff58adc9aad1cc2caaa8ae100bfabac66c";
-    assert_eq!(rt; digest::<HashSha256>(alloc, out.as_slice())?.as_str(), want);
-
-    let mut refused = vec![in alloc; 7; 12241]?;
-    assert!(rt; hkdf.expand(&[], refused.as_mut_slice()).is_err());
-    assert!(rt; refused.iter().all(|byte| *byte == 7));
+    assert!(rt; MAX_OUTPUT_BLOCKS * HashSha384::DIGEST_SIZE == 12240);
+    assert!(rt;
+        is_longest::<HashSha384>(
+            rt.alloc(),
+            "e5b5ac5b912d05fe4d1515999b2500432a6a3361b1027691fd708cff354f6aa1f43b8fb839f7fddaa03b934b09e7adbf0bb2c81d5a608f4d509fed8b",
+            "db7a25e77084d58f35aef7740f7138469a",
+            12240,
+            "8823da3f3efa08423c200ccff1fb5fff58adc9aad1cc2caaa8ae100bfabac66c"
+        )?
+    );
     Ok(())
 }
 
@@ -151,11 +127,7 @@ fn codes_by_sha512() -> &'static [Code] {
 
 #[test]
 fn hmac_by_sha512(rt: HostRuntime) -> Result<(), Fail> {
-    for &(name, key, text, want) in codes_by_sha512() {
-        let code = hmac::<HashSha512>(rt.alloc(), key, text)?;
-        assert_eq!(rt; code.as_str(), want, "{name}");
-    }
-    Ok(())
+    has_codes::<HashSha512>(&rt, rt.alloc(), codes_by_sha512())
 }
 
 // Outputs by SHA-512.
@@ -181,40 +153,22 @@ fn outputs_by_sha512() -> &'static [Output] {
 
 #[test]
 fn hkdf_by_sha512(rt: HostRuntime) -> Result<(), Fail> {
-    let alloc = rt.alloc();
-    for &(salt, ikm, info, len, want) in outputs_by_sha512() {
-        let hkdf = Hkdf::<HashSha512>::new(
-            hex::decode(alloc, salt)?.as_slice(),
-            hex::decode(alloc, ikm)?.as_slice(),
-        );
-        let out = expand(alloc, &hkdf, info, len)?;
-        assert_eq!(rt;
-            hex::encode(alloc, out.as_slice())?.as_str(),
-            want,
-            "{len} bytes"
-        );
-    }
-    Ok(())
+    has_outputs::<HashSha512>(&rt, rt.alloc(), outputs_by_sha512())
 }
 
 // The longest output by its SHA-256, and one byte more.
 #[test]
 fn the_longest_output_by_sha512(rt: HostRuntime) -> Result<(), Fail> {
-    let alloc = rt.alloc();
-    let salt = hex::decode(alloc, "dd560b24e7a5a742fa97")?;
-    let info =
-        "dca94b4e09d4cce80200176be184d31b2dda89db5037aa4dacbb6439bf975bdc561b4293a41c243e8b1e37";
-    let hkdf = Hkdf::<HashSha512>::new(salt.as_slice(), &[]);
-    let longest = MAX_OUTPUT_BLOCKS * HashSha512::DIGEST_SIZE;
-    assert_eq!(rt; longest, 16320);
-
-    let out = expand(alloc, &hkdf, info, longest)?;
-    let want = "f82f925dd171c9d309a0d47b808e2d906d9d20695a6652debf10dc94c124261b";
-    assert_eq!(rt; digest::<HashSha256>(alloc, out.as_slice())?.as_str(), want);
-
-    let mut refused = vec![in alloc; 7; 16321]?;
-    assert!(rt; hkdf.expand(&[], refused.as_mut_slice()).is_err());
-    assert!(rt; refused.iter().all(|byte| *byte == 7));
+    assert!(rt; MAX_OUTPUT_BLOCKS * HashSha512::DIGEST_SIZE == 16320);
+    assert!(rt;
+        is_longest::<HashSha512>(
+            rt.alloc(),
+            "dd560b24e7a5a742fa97",
+            "dca94b4e09d4cce80200176be184d31b2dda89db5037aa4dacbb6439bf975bdc561b4293a41c243e8b1e37",
+            16320,
+            "f82f925dd171c9d309a0d47b808e2d906d9d20695a6652debf10dc94c124261b"
+        )?
+    );
     Ok(())
 }
 
@@ -223,13 +177,7 @@ fn the_longest_output_by_sha512(rt: HostRuntime) -> Result<(), Fail> {
 fn sizes_of_the_standards(rt: HostRuntime) {
     most_output_blocks();
     sizes_of_sha2();
-    assert_eq!(rt; (HashSha256::DIGEST_SIZE, HashSha256::BLOCK_SIZE), (32, 64));
-    assert_eq!(rt;
-        (HashSha384::DIGEST_SIZE, HashSha384::BLOCK_SIZE),
-        (48, 128)
-    );
-    assert_eq!(rt;
-        (HashSha512::DIGEST_SIZE, HashSha512::BLOCK_SIZE),
-        (64, 128)
-    );
+    assert!(rt; HashSha256::DIGEST_SIZE == 32 && HashSha256::BLOCK_SIZE == 64);
+    assert!(rt; HashSha384::DIGEST_SIZE == 48 && HashSha384::BLOCK_SIZE == 128);
+    assert!(rt; HashSha512::DIGEST_SIZE == 64 && HashSha512::BLOCK_SIZE == 128);
 }
