@@ -4,7 +4,7 @@ ghost use Rattle.age_core.specs.Replies.{IsAnswer};
 
 use crate::phases::{Asked, FAILED, KNOWN, Told, phases_of_age, phases_of_the_plugin};
 use age_core::format::Stanza;
-use age_core::outside::{MemSink, MemSource};
+use age_core::outside::{MemSink, MemSource, Sink, Source};
 use age_core::plugin::{Answer, Connection, NoCommand, PhaseError, UnidirAnswer};
 use std::alloc::{AllocError, Global};
 use std::test::Fail;
@@ -132,8 +132,8 @@ fn is_answered(alloc: Global, row: &Asked) -> Result<bool, Fail> {
 }
 
 // The next command, replied to as age did.
-fn next_replied(
-    connection: &mut Connection<MemSource, MemSink>,
+fn next_replied<R: Source, W: Sink>(
+    connection: &mut Connection<R, W>,
     commands: &[String],
 ) -> Result<Stanza, NoCommand> {
     let (stanza, reply) = connection.next_command(commands)?;
