@@ -3,6 +3,7 @@
 
 use age_format::format::ReadRefused;
 use age_legacy::read::legacy_age_stanza;
+use std::alloc::{AllocError, Global};
 use std::test::Fail;
 
 /// Texts of stanzas that are tagged `H`, with the length of the body and what follows.
@@ -33,16 +34,21 @@ fn read_texts() -> &'static [(&'static [u8], usize, &'static [u8])] {
     ]
 }
 
+/// Whether a text is read as a stanza that is tagged `H`, with a body of this length, and what follows.
+fn is_read(alloc: Global, text: &[u8], len: usize, want: &[u8]) -> Result<bool, AllocError> {
+    match legacy_age_stanza(alloc, text) {
+        Ok((rest, stanza)) => {
+            let body = stanza.body(alloc)?;
+            Ok(rest == want && stanza.tag() == "H" && body.len() == len)
+        }
+        Err(_) => Ok(false),
+    }
+}
+
 #[test]
 fn stanzas_of_older_writers_are_read(rt: HostRuntime) -> Result<(), Fail> {
     for &(text, len, want) in read_texts() {
-        let Ok((rest, stanza)) = legacy_age_stanza(rt.alloc(), text) else {
-            assert!(rt; false, "{len}");
-            continue;
-        };
-        assert_eq!(rt; rest, want);
-        assert_eq!(rt; stanza.tag(), "H");
-        assert_eq!(rt; stanza.body(rt.alloc())?.len(), len);
+        assert!(rt; is_read(rt.alloc(), text, len, want)?, "{len}");
     }
     Ok(())
 }
@@ -70,8 +76,7 @@ fn refused_texts() -> &'static [(&'static [u8], ReadRefused)] {
 #[test]
 fn other_texts_are_refused(rt: HostRuntime) -> Result<(), Fail> {
     for &(text, want) in refused_texts() {
-        let error = legacy_age_stanza(rt.alloc(), text).err();
-        assert_eq!(rt; error, Some(want));
+        assert!(rt; legacy_age_stanza(rt.alloc(), text).err() == Some(want));
     }
     Ok(())
 }

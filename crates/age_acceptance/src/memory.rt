@@ -8,11 +8,10 @@ use std::test::Fail;
 #[test]
 fn the_sink_over_memory_holds_what_it_got(rt: HostRuntime) -> Result<(), Fail> {
     let mut sink = MemSink::new(rt.alloc(), [1].to_vec(rt.alloc())?);
-    assert_eq!(rt; write_all(&mut sink, b"one"), Ok(()));
-    assert_eq!(rt; sink.write(b"two"), Err(Failed));
-    assert_eq!(rt; sink.write(b"six"), Ok(3));
-    assert_eq!(rt; sink.bytes(), b"onesix".as_slice());
-    assert!(rt; !sink.ran_out());
+    assert!(rt; write_all(&mut sink, b"one") == Ok(()));
+    assert!(rt; sink.write(b"two") == Err(Failed));
+    assert!(rt; sink.write(b"six") == Ok(3));
+    assert!(rt; sink.bytes() == b"onesix".as_slice() && !sink.ran_out());
     Ok(())
 }
 

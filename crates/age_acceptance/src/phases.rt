@@ -75,6 +75,6 @@ fn what_is_read_is_written_again(rt: HostRuntime) -> Result<(), Fail> {
         )
         .is_ok()
     );
-    assert_eq!(rt; sink.bytes(), text);
+    assert!(rt; sink.bytes() == text);
     Ok(())
 }

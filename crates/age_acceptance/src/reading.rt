@@ -31,6 +31,11 @@ fn source_of(
     Ok(MemSource::new(text, piece, Vec::new(alloc)))
 }
 
+/// How the next stanza of a source is refused, unless there is one.
+fn refusal(reader: &mut StanzaReader, source: &mut MemSource) -> Option<PhaseError> {
+    reader.receive_from(source).err()
+}
+
 /// Texts that no stanza begins.
 const MALFORMED: [&[u8]; 6] = [
     b"-> a  b\n",
@@ -47,7 +52,7 @@ fn malformed_texts_are_refused_again_and_again(rt: HostRuntime) -> Result<(), Fa
         let mut source = source_of(rt.alloc(), text, b"", 0, 1)?;
         let mut reader = StanzaReader::new(rt.alloc(), BUDGET);
         for _ in 0..2 {
-            let error = reader.receive_from(&mut source).err();
+            let error = refusal(&mut reader, &mut source);
             assert!(rt; matches!(error, Some(PhaseError::InvalidData)));
         }
     }
@@ -71,7 +76,7 @@ fn a_stanza_beyond_the_budget_is_refused(rt: HostRuntime) -> Result<(), Fail> {
     for (front, part, count, budget) in LONG {
         let mut source = source_of(rt.alloc(), front, part, count, 4096)?;
         let mut reader = StanzaReader::new(rt.alloc(), budget);
-        let error = reader.receive_from(&mut source).err();
+        let error = refusal(&mut reader, &mut source);
         assert!(rt; matches!(error, Some(PhaseError::TooMuch)));
     }
     Ok(())
@@ -91,9 +96,9 @@ fn at_most_4096_bytes_are_read_at_once(rt: HostRuntime) -> Result<(), Fail> {
             BUDGET as usize,
         )?;
         let mut reader = StanzaReader::new(rt.alloc(), BUDGET);
-        let error = reader.receive_from(&mut source).err();
+        let error = refusal(&mut reader, &mut source);
         assert!(rt; matches!(error, Some(PhaseError::UnexpectedEof)));
-        assert_eq!(rt; source.reads(), want, "{len}");
+        assert!(rt; source.reads() == want, "{len}");
     }
     Ok(())
 }
@@ -101,22 +106,31 @@ fn at_most_4096_bytes_are_read_at_once(rt: HostRuntime) -> Result<(), Fail> {
 /// A text of stanzas: `done` is the third, and what follows it is no stanza.
 const STANZAS: &[u8] = b"-> a b c\n\n-> test foo\nYmFy\n-> done\n\n-> x\n/\n";
 
+/// Whether the next stanza of a source has this tag, so many arguments and this body.
+fn gives(
+    reader: &mut StanzaReader,
+    source: &mut MemSource,
+    tag: &str,
+    args: usize,
+    body: &[u8],
+) -> bool {
+    match reader.receive_from(source) {
+        Ok(stanza) => {
+            stanza.has_tag(tag) && stanza.args.len() == args && stanza.body.as_slice() == body
+        }
+        Err(_) => false,
+    }
+}
+
 #[test]
 fn stanzas_come_in_any_pieces(rt: HostRuntime) -> Result<(), Fail> {
     for piece in PIECES {
         let mut source = source_of(rt.alloc(), STANZAS, b"", 0, piece)?;
         let mut reader = StanzaReader::new(rt.alloc(), BUDGET);
-        for (tag, args, body) in [
-            ("a", 2, b"".as_slice()),
-            ("test", 1, b"bar"),
-            ("done", 0, b""),
-        ] {
-            let stanza = reader.receive_from(&mut source).ok().ok_or("a stanza")?;
-            assert!(rt; stanza.has_tag(tag));
-            assert_eq!(rt; stanza.args.len(), args);
-            assert_eq!(rt; stanza.body.as_slice(), body);
-        }
-        let next = reader.receive_from(&mut source).err();
+        assert!(rt; gives(&mut reader, &mut source, "a", 2, b""));
+        assert!(rt; gives(&mut reader, &mut source, "test", 1, b"bar"));
+        assert!(rt; gives(&mut reader, &mut source, "done", 0, b""));
+        let next = refusal(&mut reader, &mut source);
         assert!(rt; matches!(next, Some(PhaseError::InvalidData)));
     }
     Ok(())
@@ -129,11 +143,11 @@ fn a_source_that_failed_goes_on(rt: HostRuntime) -> Result<(), Fail> {
     let mut source = MemSource::new(bytes, 7, fail_at);
     let mut reader = StanzaReader::new(rt.alloc(), BUDGET);
     for _ in 0..3 {
-        let error = reader.receive_from(&mut source).err();
+        let error = refusal(&mut reader, &mut source);
         assert!(rt; matches!(error, Some(PhaseError::ReadFault)));
     }
     for _ in 0..3 {
-        assert!(rt; reader.receive_from(&mut source).is_ok());
+        assert!(rt; refusal(&mut reader, &mut source).is_none());
     }
     Ok(())
 }

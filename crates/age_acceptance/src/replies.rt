@@ -31,14 +31,21 @@ fn next_replied(
     }
 }
 
+/// Whether this is a command with this body.
+fn has_body(next: &Result<Stanza, NoCommand>, want: &[u8]) -> bool {
+    match next {
+        Ok(stanza) => stanza.body.as_slice() == want,
+        Err(_) => false,
+    }
+}
+
 #[test]
 fn commands_are_replied_to(rt: HostRuntime) -> Result<(), Fail> {
     let text = b"-> odd\n\n-> test a\nYg\n-> test\n\n-> done\n\nbehind";
     let mut connection = connection_over(rt.alloc(), text, &[])?;
     let commands = commands_of(rt.alloc(), "test")?;
     let first = next_replied(&mut connection, commands.as_slice(), Some(b"data"));
-    let first = first.ok().ok_or("a command")?;
-    assert_eq!(rt; first.body.as_slice(), b"b".as_slice());
+    assert!(rt; has_body(&first, b"b"));
     let second = next_replied(&mut connection, commands.as_slice(), None);
     assert!(rt; second.is_ok());
     let none = next_replied(&mut connection, commands.as_slice(), None);
