@@ -137,57 +137,67 @@ fn x_is_transformed_in_1024_steps(rt: HostRuntime) {
     };
     notes_from_none::<Brand>(&mut values, Blank::new(1));
     assert!(rt; values.polynomial.into_array() == dsa_model::OF_X);
-    assert_eq!(rt; values.noted, 1024);
+    assert!(rt; values.noted == 1024);
 }
 
 #[test]
 fn parameters_of_the_standard(rt: HostRuntime) {
-    assert_eq!(rt;
-        (Gamma2::Q88.value(), Gamma2::Q88.high_count()),
-        (95232, 44)
-    );
-    assert_eq!(rt;
-        (Gamma2::Q32.value(), Gamma2::Q32.high_count()),
-        (261888, 16)
-    );
+    assert!(rt; Gamma2::Q88.value() == 95232 && Gamma2::Q88.high_count() == 44);
+    assert!(rt; Gamma2::Q32.value() == 261888 && Gamma2::Q32.high_count() == 16);
+}
+
+// Whether a number is rounded to these parts.
+fn is_rounded(r: u32, want: (u32, i32)) -> bool {
+    if r >= 8380417 {
+        return false;
+    }
+    let (high, low) = power2round(r);
+    high == want.0 && low == want.1
+}
+
+// Whether a number has these parts, together and one by one.
+fn has_parts(gamma: Gamma2, r: u32, want: (u32, i32)) -> bool {
+    if r >= 8380417 {
+        return false;
+    }
+    let (high, low) = decompose(r, gamma);
+    let is_same = high_bits(r, gamma) == high && low_bits(r, gamma) == low;
+    is_same && high == want.0 && low == want.1
 }
 
 #[test]
 fn parts_of_the_model(rt: HostRuntime) {
     for (r, want) in dsa_model::ROUNDED {
-        assert!(rt; r < 8380417);
-        assert_eq!(rt; power2round(r), want, "at {r}");
+        assert!(rt; is_rounded(r, want), "at {r}");
     }
     for (r, want) in dsa_model::PARTS_88 {
-        has_parts(&rt, Gamma2::Q88, r, want);
+        assert!(rt; has_parts(Gamma2::Q88, r, want), "at {r}");
     }
     for (r, want) in dsa_model::PARTS_32 {
-        has_parts(&rt, Gamma2::Q32, r, want);
-    }
-}
-
-fn has_parts(rt: &impl Abort, gamma: Gamma2, r: u32, want: (u32, i32)) {
-    assert!(rt; r < 8380417);
-    assert_eq!(rt; decompose(r, gamma), want, "at {r}");
-    assert_eq!(rt; (high_bits(r, gamma), low_bits(r, gamma)), want, "at {r}");
-}
-
-#[test]
-fn hints_of_the_model(rt: HostRuntime) {
-    for row in dsa_model::HINTS_88 {
-        has_hint(&rt, Gamma2::Q88, row);
-    }
-    for row in dsa_model::HINTS_32 {
-        has_hint(&rt, Gamma2::Q32, row);
+        assert!(rt; has_parts(Gamma2::Q32, r, want), "at {r}");
     }
 }
 
 // r, z, the hint, UseHint with it and with the other one.
-fn has_hint(rt: &impl Abort, gamma: Gamma2, row: (u32, i32, bool, u32, u32)) {
-    let (r, z, hint, with, other) = row;
-    assert!(rt; r < 8380417);
-    assert!(rt; -4190208 <= z && z <= 4190208);
-    assert_eq!(rt; make_hint(z, r, gamma), hint, "at {r} and {z}");
-    assert_eq!(rt; use_hint(hint, r, gamma), with, "at {r} and {z}");
-    assert_eq!(rt; use_hint(!hint, r, gamma), other, "at {r} and {z}");
+type HintCase = (u32, i32, bool, u32, u32);
+
+// Whether a case has its hint, and it and the other one give its numbers.
+fn has_hint(gamma: Gamma2, case: HintCase) -> bool {
+    let (r, z, hint, with, other) = case;
+    if r >= 8380417 || z < -4190208 || 4190208 < z {
+        return false;
+    }
+    make_hint(z, r, gamma) == hint
+        && use_hint(hint, r, gamma) == with
+        && use_hint(!hint, r, gamma) == other
+}
+
+#[test]
+fn hints_of_the_model(rt: HostRuntime) {
+    for case in dsa_model::HINTS_88 {
+        assert!(rt; has_hint(Gamma2::Q88, case), "at {} and {}", case.0, case.1);
+    }
+    for case in dsa_model::HINTS_32 {
+        assert!(rt; has_hint(Gamma2::Q32, case), "at {} and {}", case.0, case.1);
+    }
 }

@@ -1,6 +1,9 @@
 //! Packing and unpacking against answers from outside.
 
-use module_lattice::{BaseField, Field8380417, byte_decode, byte_encode};
+ghost use Rattle.std.specs.Prelude.{◌≡◌, ◌⊎◌, ◌×◌, ◌*◌, ◌^◌, ◌≤◌, length};
+ghost use Rattle.module_lattice.specs.Groups.{lcm};
+
+use module_lattice::{BaseField, Field, Field8380417, byte_decode, byte_encode};
 
 // How many numbers are packed.
 const VALUE_COUNT: usize = 256;
@@ -138,74 +141,53 @@ const UNPACKED_12: [u32; VALUE_COUNT] = [
 const FROM_12: &[u8] =
     b"\x8e\xcf\x36\x69\x94\xb8\x21\xc2\x58\x14\x49\x79\x1a\x5e\xbc\x8b\x22\x75\xfd\xde\x22\xf1\x40\xba\xa7\x34\x59\xa0\x60\x02\xb3\xb7\xa2\xfd\x07\x69\x57\x03\xf4\xc7\x7f\x9a\x11\x97\xed\xeb\xbf\x58\xc3\xe6\x4e\xdd\x77\x14\x3a\xe2\xc6\x8f\x8d\xcc\x50\xc1\x79\x75\x7e\x9d\x99\xb8\x96\x09\xcb\x9e\xd5\x6c\x52\x85\x83\x85\xeb\x60\x19\xd7\x13\xb9\x53\x9a\x62\xc2\x03\x0b\x36\xf8\xd3\x24\xad\x15\xf2\x40\xb8\xd4\x01\x54\xed\x50\xb3\xc1\xe1\x30\x78\x78\x11\x23\x8f\x23\xb9\x3a\x53\x18\x5e\x58\x78\x78\x83\xb6\xaf\xf9\xea\x7c\x66\xc6\x9d\xce\x6f\x4e\x96\x7d\xfb\xc8\x52\x0a\x22\xb6\xcb\x99\x11\xf8\x83\xbc\x88\xee\x86\xa9\x94\x90\x8c\x28\x2c\x75\xa9\x20\x92\xc5\x60\x0a\xff\xa3\x59\x8e\x28\x2a\x84\xfe\xa4\xe1\x99\xc3\x45\xc2\x10\x89\x18\x5d\x3d\xf5\x3a\xa2\x1f\x49\xef\x6c\xc3\x49\x31\x8f\xab\xe2\xbc\x44\x6c\xd5\x04\xd7\xa5\x56\xca\xae\x7d\x10\x1b\xe7\xf3\x0c\xd6\xdd\xf3\xd7\xc5\x46\x90\xac\xdc\xb5\xe3\xee\x6f\x0b\x2b\xe7\x35\xda\xe1\x8a\x83\x50\x73\x19\xe4\xac\x09\x08\x3e\x37\x1d\x95\xcb\xef\x48\xa8\x4f\x76\x15\x60\x8a\x9a\xea\x2d\x08\xf5\xa1\x51\x61\x2e\x79\x68\x4b\x64\xc9\xbe\xfd\xe8\x67\xda\x33\x6e\x38\x3f\x4b\xff\xeb\xbb\xda\xaa\xaf\xec\xde\x67\x31\x33\x9b\x76\x9a\xad\xa7\x2b\x1c\x81\xec\x2c\x2b\xd4\x37\x9d\x19\xa3\x63\xc5\xdf\xe2\x67\xb6\x55\xf9\xf4\x29\x58\xca\xc0\xae\x72\xc1\x77\x63\x7a\x30\x38\x88\x8c\x95\xeb\xa6\x1f\x1d\x48\xa1\x64\x73\xe8\x2d\xe0\xef\xe2\x59\x08\x0f\xf1\xf1\xc4\xc6\xb4\xe9\x70\x7d\xee\xf2\xea\xea\x9f\x1e\xc5\x0f\xd6\x4e\x09\x2a\x60\x7b\x69\xcb\x95\x46\xfa\x91\x85\xd7\x66\x4f\x49\xff\x6b\xbf\x74\xc7\x49\xaf";
 
+// Whether bytes are these numbers of some bits, unpacked and packed again.
+fn packs<F: Field>(d: usize, bytes: &[u8], numbers: &[u32; VALUE_COUNT], packed: &mut [u8]) -> bool
+    requires positive { 1 ≤ d }
+    requires unit { lcm d 8 ≤ 128 }
+    requires width { (2 ^ d ≤ F.Q) ⊎ ((d ≡ 12) × (4096 ≤ 2 * F.Q)) }
+    requires bytes { length bytes.now ≡ 32 * d }
+    requires room { length packed.old ≡ 32 * d }
+{
+    let mut unpacked = [0; VALUE_COUNT];
+    byte_decode::<F>(d, bytes, &mut unpacked);
+    byte_encode::<F>(d, &unpacked, packed);
+    unpacked == *numbers && &*packed == bytes
+}
+
 #[test]
 fn packs_1_bits(rt: HostRuntime) {
-    let mut unpacked = [0; VALUE_COUNT];
-    byte_decode::<BaseField>(1, BYTES_1, &mut unpacked);
-    assert!(rt; unpacked == PACKED_1);
-    let mut packed = [0; 32];
-    byte_encode::<BaseField>(1, &unpacked, &mut packed);
-    assert!(rt; packed.as_slice() == BYTES_1);
+    assert!(rt; packs::<BaseField>(1, BYTES_1, &PACKED_1, &mut [0; 32]));
 }
 
 #[test]
 fn packs_4_bits(rt: HostRuntime) {
-    let mut unpacked = [0; VALUE_COUNT];
-    byte_decode::<BaseField>(4, BYTES_4, &mut unpacked);
-    assert!(rt; unpacked == PACKED_4);
-    let mut packed = [0; 128];
-    byte_encode::<BaseField>(4, &unpacked, &mut packed);
-    assert!(rt; packed.as_slice() == BYTES_4);
+    assert!(rt; packs::<BaseField>(4, BYTES_4, &PACKED_4, &mut [0; 128]));
 }
 
 #[test]
 fn packs_5_bits(rt: HostRuntime) {
-    let mut unpacked = [0; VALUE_COUNT];
-    byte_decode::<BaseField>(5, BYTES_5, &mut unpacked);
-    assert!(rt; unpacked == PACKED_5);
-    let mut packed = [0; 160];
-    byte_encode::<BaseField>(5, &unpacked, &mut packed);
-    assert!(rt; packed.as_slice() == BYTES_5);
+    assert!(rt; packs::<BaseField>(5, BYTES_5, &PACKED_5, &mut [0; 160]));
 }
 
 #[test]
 fn packs_10_bits(rt: HostRuntime) {
-    let mut unpacked = [0; VALUE_COUNT];
-    byte_decode::<BaseField>(10, BYTES_10, &mut unpacked);
-    assert!(rt; unpacked == PACKED_10);
-    let mut packed = [0; 320];
-    byte_encode::<BaseField>(10, &unpacked, &mut packed);
-    assert!(rt; packed.as_slice() == BYTES_10);
+    assert!(rt; packs::<BaseField>(10, BYTES_10, &PACKED_10, &mut [0; 320]));
 }
 
 #[test]
 fn packs_11_bits(rt: HostRuntime) {
-    let mut unpacked = [0; VALUE_COUNT];
-    byte_decode::<BaseField>(11, BYTES_11, &mut unpacked);
-    assert!(rt; unpacked == PACKED_11);
-    let mut packed = [0; 352];
-    byte_encode::<BaseField>(11, &unpacked, &mut packed);
-    assert!(rt; packed.as_slice() == BYTES_11);
+    assert!(rt; packs::<BaseField>(11, BYTES_11, &PACKED_11, &mut [0; 352]));
 }
 
 #[test]
 fn packs_12_bits(rt: HostRuntime) {
-    let mut unpacked = [0; VALUE_COUNT];
-    byte_decode::<BaseField>(12, BYTES_12, &mut unpacked);
-    assert!(rt; unpacked == PACKED_12);
-    let mut packed = [0; 384];
-    byte_encode::<BaseField>(12, &unpacked, &mut packed);
-    assert!(rt; packed.as_slice() == BYTES_12);
+    assert!(rt; packs::<BaseField>(12, BYTES_12, &PACKED_12, &mut [0; 384]));
 }
 
 #[test]
 fn packs_wide_numbers(rt: HostRuntime) {
-    let mut unpacked = [0; VALUE_COUNT];
-    byte_decode::<Field8380417>(20, &[0xff; 640], &mut unpacked);
-    assert!(rt; unpacked == [1048575; VALUE_COUNT]);
-    let mut packed = [0; 640];
-    byte_encode::<Field8380417>(20, &unpacked, &mut packed);
-    assert!(rt; packed == [0xff; 640]);
+    assert!(rt; packs::<Field8380417>(20, &[0xff; 640], &[1048575; VALUE_COUNT], &mut [0; 640]));
 }
 
 // Q is subtracted once from each number of Q or more.

@@ -59,7 +59,7 @@ fn x_is_transformed_in_896_steps(rt: HostRuntime) {
     counts_from_none::<Brand>(&mut f, Blank::new(1));
     let values = f.into_array();
     for i in 0..128 {
-        assert_eq!(rt; (values[2 * i], values[2 * i + 1]), (0, 1));
+        assert!(rt; values[2 * i] == 0 && values[2 * i + 1] == 1);
     }
 }
 
@@ -68,8 +68,8 @@ fn x_and_back(rt: HostRuntime) {
     let f = x(&rt);
     let transformed = ntt(&f);
     for i in 0..128 {
-        assert_eq!(rt; transformed.coefficient(2 * i).get(), 0);
-        assert_eq!(rt; transformed.coefficient(2 * i + 1).get(), 1);
+        assert!(rt; transformed.coefficient(2 * i).get() == 0);
+        assert!(rt; transformed.coefficient(2 * i + 1).get() == 1);
     }
     assert!(rt; ntt_inverse(&transformed) == f);
 }
