@@ -40,12 +40,17 @@ fn assigning_operators(rt: HostRuntime) {
     assert!(rt; [x.to_u8(), y.to_u8(), z.to_u8()] == [0, 1, 0]);
 }
 
+// Whether the first is false, and the others are true.
+fn are_no_yes_yes(first: Choice, second: Choice, third: Choice) -> bool {
+    [first.to_u8(), second.to_u8(), third.to_u8()] == [0, 1, 1]
+}
+
 #[test]
 fn comparisons_of_8_bits(rt: HostRuntime) {
     let equal = Choice::from_u8_eq(0xff, 0);
     let below = Choice::from_u8_lt(7, 0xff);
     let at_most = Choice::from_u8_le(0xff, 0xff);
-    assert!(rt; [equal.to_u8(), below.to_u8(), at_most.to_u8()] == [0, 1, 1]);
+    assert!(rt; are_no_yes_yes(equal, below, at_most));
 }
 
 #[test]
@@ -53,7 +58,7 @@ fn comparisons_of_16_bits(rt: HostRuntime) {
     let equal = Choice::from_u16_eq(0xffff, 0);
     let below = Choice::from_u16_lt(0x100, 0xffff);
     let at_most = Choice::from_u16_le(0xffff, 0xffff);
-    assert!(rt; [equal.to_u8(), below.to_u8(), at_most.to_u8()] == [0, 1, 1]);
+    assert!(rt; are_no_yes_yes(equal, below, at_most));
 }
 
 #[test]
@@ -61,7 +66,7 @@ fn comparisons_of_32_bits(rt: HostRuntime) {
     let equal = Choice::from_u32_eq(0xffff_ffff, 0);
     let below = Choice::from_u32_lt(0x1_0000, 0xffff_ffff);
     let at_most = Choice::from_u32_le(0xffff_ffff, 0xffff_ffff);
-    assert!(rt; [equal.to_u8(), below.to_u8(), at_most.to_u8()] == [0, 1, 1]);
+    assert!(rt; are_no_yes_yes(equal, below, at_most));
 }
 
 #[test]
@@ -69,7 +74,7 @@ fn comparisons_of_64_bits(rt: HostRuntime) {
     let equal = Choice::from_u64_eq(u64::MAX, 0);
     let below = Choice::from_u64_lt(1 << 32, u64::MAX);
     let at_most = Choice::from_u64_le(u64::MAX, u64::MAX);
-    assert!(rt; [equal.to_u8(), below.to_u8(), at_most.to_u8()] == [0, 1, 1]);
+    assert!(rt; are_no_yes_yes(equal, below, at_most));
 }
 
 #[test]
@@ -77,7 +82,7 @@ fn comparisons_of_128_bits(rt: HostRuntime) {
     let equal = Choice::from_u128_eq(u128::MAX, 0);
     let below = Choice::from_u128_lt(1 << 64, u128::MAX);
     let at_most = Choice::from_u128_le(u128::MAX, u128::MAX);
-    assert!(rt; [equal.to_u8(), below.to_u8(), at_most.to_u8()] == [0, 1, 1]);
+    assert!(rt; are_no_yes_yes(equal, below, at_most));
 }
 
 #[test]
