@@ -404,7 +404,7 @@ pub fn no_commands() -> &'static [&'static str] {
 }
 
 /// Commands, and the SHA-256 of what their runs write of the zero seed.
-pub const KEYS: &[(&str, &str)] = &[
+const KEYS: &[(&str, &str)] = &[
     (
         "key 512",
         "5ecdda4fa0e6f4891fece22876d228774ec224230aac7c60d7ae1d893e3033ff",
@@ -419,6 +419,10 @@ pub const KEYS: &[(&str, &str)] = &[
     ),
 ];
 
+pub fn keys() -> &'static [(&'static str, &'static str)] {
+    KEYS
+}
+
 /// A run whose reads and writes of these numbers fail.
 pub struct FaultyRun {
     pub name: &'static str,
@@ -430,7 +434,7 @@ pub struct FaultyRun {
 }
 
 /// A head of zeros is read in 130 calls, and a mail whole in the next.
-pub const FAULTY_RUNS: &[FaultyRun] = &[
+const FAULTY_RUNS: &[FaultyRun] = &[
     FaultyRun {
         name: "mail unread",
         reads: &[130],
@@ -465,6 +469,10 @@ pub const FAULTY_RUNS: &[FaultyRun] = &[
     },
 ];
 
+pub fn faulty_runs() -> &'static [FaultyRun] {
+    FAULTY_RUNS
+}
+
 /// A run whose reads of these numbers fail, and how many reads it makes.
 pub struct CountedRun {
     pub name: &'static str,
@@ -476,7 +484,7 @@ pub struct CountedRun {
 }
 
 /// A byte of a head a read, and one more at its end; and of a mail as much as the budget allows at once.
-pub const COUNTED_RUNS: &[CountedRun] = &[
+const COUNTED_RUNS: &[CountedRun] = &[
     CountedRun {
         name: "no head",
         command: "open 768 sha256 aes256 65536",
@@ -534,3 +542,7 @@ pub const COUNTED_RUNS: &[CountedRun] = &[
         reads: 131,
     },
 ];
+
+pub fn counted_runs() -> &'static [CountedRun] {
+    COUNTED_RUNS
+}

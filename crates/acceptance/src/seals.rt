@@ -366,7 +366,7 @@ const EDGE_KEYS: &[Run] = &[
 ];
 
 /// Mails that are sealed.
-pub const SEALS: &[Run] = &[
+const SEALS: &[Run] = &[
     Run {
         name: "512 sha256 aes128",
         command: "seal 512 sha256 aes128",
@@ -416,7 +416,7 @@ pub const SEALS: &[Run] = &[
 ];
 
 /// The same mails, opened.
-pub const OPENED_SEALS: &[Run] = &[
+const OPENED_SEALS: &[Run] = &[
     Run {
         name: "512 sha256 aes128, opened",
         command: "open 512 sha256 aes128 65536",
@@ -472,4 +472,12 @@ pub fn faulty_messages() -> &'static [Run] {
 
 pub fn edge_keys() -> &'static [Run] {
     EDGE_KEYS
+}
+
+pub fn seals() -> &'static [Run] {
+    SEALS
+}
+
+pub fn opened_seals() -> &'static [Run] {
+    OPENED_SEALS
 }

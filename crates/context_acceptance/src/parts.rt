@@ -8,7 +8,7 @@ mod single_shots;
 
 use hpke::laws::{registered_identifiers, same_context, worked_nonces};
 use hpke::{
-    AeadTag, AesGcm256, Deserializable, ExportOnlyAead, HkdfSha256, HkdfSha384, HkdfSha512,
+    Aead, AeadTag, AesGcm256, Deserializable, ExportOnlyAead, HkdfSha256, HkdfSha384, HkdfSha512,
     HpkeError, Kdf, Kem, LabeledExpand, MaskKem, MaskKey, SecretSize, Serializable, SharedSecret,
     extract_and_expand, labeled_extract,
 };
@@ -74,10 +74,15 @@ fn error_texts() -> &'static [(HpkeError, &'static str)] {
     ]
 }
 
+// Whether an error has this text.
+fn is_text(alloc: Global, error: HpkeError, text: &str) -> Result<bool, Fail> {
+    Ok(format!(in alloc; "{error}")?.as_str() == text)
+}
+
 #[test]
 fn texts_of_errors(rt: HostRuntime) -> Result<(), Fail> {
     for &(error, text) in error_texts() {
-        assert_eq!(rt; format!(in rt.alloc(); "{error}")?.as_str(), text);
+        assert!(rt; is_text(rt.alloc(), error, text)?, "{text}");
     }
     Ok(())
 }
@@ -98,11 +103,10 @@ fn digits<T: Serializable>(alloc: Global, value: &T) -> Result<String, Fail> {
 fn keys_in_bytes(rt: HostRuntime) -> Result<(), Fail> {
     let value = key(rt.alloc(), &[0x5A; 32])?;
     let want = "5a5a5a5a5a5a5a5a5a5a5a5a5a5a5a5a5a5a5a5a5a5a5a5a5a5a5a5a5a5a5a5a";
-    assert_eq!(rt; digits(rt.alloc(), &value)?.as_str(), want);
-    assert_eq!(rt; MaskKey::size(), 32);
+    assert!(rt; digits(rt.alloc(), &value)?.as_str() == want && MaskKey::size() == 32);
     for len in [0, 31, 33] {
         let want = Some(HpkeError::IncorrectInputLength(32, len));
-        assert_eq!(rt; key_refusal(rt.alloc(), len), want);
+        assert!(rt; key_refusal(rt.alloc(), len) == want);
     }
     Ok(())
 }
@@ -128,17 +132,19 @@ fn decapsulated(
     MaskKem::decap(alloc, sk, sender, encapped_key)
 }
 
+// Whether both sides of a key have this secret.
+fn is_secret(alloc: Global, sk: &MaskKey, secret: &[u8]) -> Result<bool, Fail> {
+    let pk = MaskKem::sk_to_pk(alloc, sk)?;
+    let (sent, encapped_key) = encapsulated(alloc, &pk, false)?;
+    let found = decapsulated(alloc, sk, &encapped_key, false)?;
+    Ok(sent.as_slice() == secret && found.as_slice() == secret)
+}
+
 // The XOR of 35 and 07 is 32.
 #[test]
 fn secrets_of_both_sides(rt: HostRuntime) -> Result<(), Fail> {
-    let alloc = rt.alloc();
-    let sk = key(alloc, &[0x35; 32])?;
-    let pk = MaskKem::sk_to_pk(alloc, &sk)?;
-    let (sent, encapped_key) = encapsulated(alloc, &pk, false)?;
-    let found = decapsulated(alloc, &sk, &encapped_key, false)?;
-    assert_eq!(rt; sent.as_slice(), [0x32; 32].as_slice());
-    assert_eq!(rt; found.as_slice(), [0x32; 32].as_slice());
-    assert_eq!(rt; MaskKem::secret_size(), 32);
+    let sk = key(rt.alloc(), &[0x35; 32])?;
+    assert!(rt; is_secret(rt.alloc(), &sk, &[0x32; 32])? && MaskKem::secret_size() == 32);
     Ok(())
 }
 
@@ -147,64 +153,87 @@ fn senders_of_the_test_kem_are_refused(rt: HostRuntime) -> Result<(), Fail> {
     same_context::<MaskKem>();
     let pk = key(rt.alloc(), &[0x35; 32])?;
     let sent = encapsulated(rt.alloc(), &pk, true).err();
-    assert_eq!(rt; sent, Some(HpkeError::EncapError));
+    assert!(rt; sent == Some(HpkeError::EncapError));
     let found = decapsulated(rt.alloc(), &pk, &pk, true).err();
-    assert_eq!(rt; found, Some(HpkeError::DecapError));
+    assert!(rt; found == Some(HpkeError::DecapError));
     Ok(())
 }
 
-// The digits of both keys of a pair.
-fn pair_digits(alloc: Global, pair: &(MaskKey, MaskKey)) -> Result<[String; 2], Fail> {
-    let (sk, pk) = pair;
-    Ok([digits(alloc, sk)?, digits(alloc, pk)?])
+// Whether both keys of a pair have these digits.
+fn is_pair<S: Serializable, T: Serializable>(
+    alloc: Global,
+    sk: &S,
+    pk: &T,
+    want: &str,
+) -> Result<bool, Fail> {
+    Ok(digits(alloc, sk)?.as_str() == want && digits(alloc, pk)?.as_str() == want)
+}
+
+// Whether the pairs that this material derives, and that a draw of it gives, have these digits.
+fn gives_pair<K: Kem>(alloc: Global, ikm: &[u8; 32], want: &str) -> Result<bool, Fail> {
+    let (sk, pk) = K::derive_keypair(alloc, ikm)?;
+    let is_derived = is_pair(alloc, &sk, &pk, want)?;
+    let (sk, pk) = K::gen_keypair(alloc, &mut ConstantDraw::new(ikm[0]))?;
+    Ok(is_derived && is_pair(alloc, &sk, &pk, want)?)
 }
 
 #[test]
 fn derived_keys(rt: HostRuntime) -> Result<(), Fail> {
     let want = "a7bef269e8ea778aa5192d685af069a54c92c023565526c9c96ea24410a2feac";
-    let derived = MaskKem::derive_keypair(rt.alloc(), &[7; 32])?;
-    let drawn = MaskKem::gen_keypair(rt.alloc(), &mut ConstantDraw::new(7))?;
-    for pair in [&derived, &drawn] {
-        let [sk, pk] = pair_digits(rt.alloc(), pair)?;
-        assert_eq!(rt; [sk.as_str(), pk.as_str()], [want, want]);
-    }
+    assert!(rt; gives_pair::<MaskKem>(rt.alloc(), &[7; 32], want)?);
     Ok(())
+}
+
+// The digits of 40 bytes of output.
+fn expanded<D: Kdf>(alloc: Global) -> Result<String, Fail> {
+    let mut out = [0; 40];
+    extract_and_expand::<D>(b"ikm", b"KEM\xff\x00", b"info", &mut out)?;
+    Ok(hex::encode(alloc, &out)?)
+}
+
+// Whether this many bytes of output are refused.
+fn is_too_long<D: Kdf>(alloc: Global, len: usize) -> Result<bool, Fail> {
+    let mut refused = vec![in alloc; 7; len]?;
+    Ok(extract_and_expand::<D>(b"ikm", b"KEM", b"info", refused.as_mut_slice()).is_err())
 }
 
 #[test]
 fn extract_and_expand_of_a_kem(rt: HostRuntime) -> Result<(), Fail> {
-    let mut out = [0; 40];
-    extract_and_expand::<HkdfSha256>(b"ikm", b"KEM\xff\x00", b"info", &mut out)?;
-    assert_eq!(rt;
-        hex::encode(rt.alloc(), &out)?.as_str(),
-        "bc09bedfcafff7867e36090996fcac6a56f045f80056439127eb0d54979dc82f43eefd8f896826a4"
-    );
-    let mut refused = vec![in rt.alloc(); 7; 8161]?;
-    assert!(rt;
-        extract_and_expand::<HkdfSha256>(b"ikm", b"KEM", b"info", refused.as_mut_slice()).is_err()
-    );
+    let want = "bc09bedfcafff7867e36090996fcac6a56f045f80056439127eb0d54979dc82f43eefd8f896826a4";
+    assert!(rt; expanded::<HkdfSha256>(rt.alloc())?.as_str() == want);
+    assert!(rt; is_too_long::<HkdfSha256>(rt.alloc(), 8161)?);
     Ok(())
 }
 
 // What a tag refuses this many bytes with.
-fn tag_refusal(alloc: Global, len: usize) -> Option<HpkeError>
+fn tag_refusal<A: Aead>(alloc: Global, len: usize) -> Option<HpkeError>
     requires { len ≤ 17 }
 {
-    AeadTag::<AesGcm256>::from_bytes(alloc, &[9; 17][..len]).err()
+    AeadTag::<A>::from_bytes(alloc, &[9; 17][..len]).err()
+}
+
+// The digits of the copy of a tag that is read.
+fn copied_tag<A: Aead>(alloc: Global, bytes: &[u8]) -> Result<String, Fail> {
+    let tag = AeadTag::<A>::from_bytes(alloc, bytes)?.clone()?;
+    digits(alloc, &tag)
+}
+
+// The digits of a tag of zeros.
+fn default_tag<A: Aead>(alloc: Global) -> Result<String, Fail> {
+    digits(alloc, &AeadTag::<A>::default())
 }
 
 #[test]
 fn tags_in_bytes(rt: HostRuntime) -> Result<(), Fail> {
-    let tag = AeadTag::<AesGcm256>::from_bytes(rt.alloc(), &[9; 16])?.clone()?;
     let want = "09090909090909090909090909090909";
-    assert_eq!(rt; digits(rt.alloc(), &tag)?.as_str(), want);
+    assert!(rt; copied_tag::<AesGcm256>(rt.alloc(), &[9; 16])?.as_str() == want);
     for len in [0, 15, 17] {
         let want = Some(HpkeError::IncorrectInputLength(16, len));
-        assert_eq!(rt; tag_refusal(rt.alloc(), len), want);
+        assert!(rt; tag_refusal::<AesGcm256>(rt.alloc(), len) == want);
     }
-    let zeros = digits(rt.alloc(), &AeadTag::<AesGcm256>::default())?;
-    assert_eq!(rt; zeros.as_str(), "00000000000000000000000000000000");
-    assert_eq!(rt; AeadTag::<ExportOnlyAead>::size(), 0);
+    let zeros = default_tag::<AesGcm256>(rt.alloc())?;
+    assert!(rt; zeros.as_str() == "00000000000000000000000000000000");
+    assert!(rt; AeadTag::<ExportOnlyAead>::size() == 0);
     registered_identifiers();
     worked_nonces();
     Ok(())

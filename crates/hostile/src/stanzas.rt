@@ -31,24 +31,29 @@ fn phase_of(connection: &mut Connection<CleanSource, MemSink>) -> Phase {
     )
 }
 
+/// Whether a phase of a text ends before `done` does.
+fn ends_too_early(alloc: Global, text: &[u8]) -> Result<bool, AllocError> {
+    let mut connection = connection_of(alloc, Vec::from_slice(alloc, text)?, 1490);
+    Ok(matches!(phase_of(&mut connection), Err(PhaseError::UnexpectedEof)))
+}
+
+/// Whether a phase of a text has one `kem`, whose body is of 1088 bytes.
+fn has_one_key(alloc: Global, text: Vec<u8>) -> Result<bool, Fail> {
+    let mut connection = connection_of(alloc, text, 1490);
+    let phase = phase_of(&mut connection).ok().ok_or("a phase")?;
+    let keys = phase.a.ok().ok_or("lengths")?;
+    Ok(keys.as_slice() == [1088].as_slice())
+}
+
 /// Each front of a mail that isn't the whole ends before `done` does.
 #[test]
 fn a_cut_mail_ends_too_early(rt: HostRuntime) -> Result<(), Fail> {
     let mail = joined(rt.alloc(), ZERO_MAIL)?;
-    assert_eq!(rt; mail.len(), 1490);
+    assert!(rt; mail.len() == 1490);
     for n in 0..mail.len() {
-        let front = Vec::from_slice(rt.alloc(), &mail[..n])?;
-        let mut connection = connection_of(rt.alloc(), front, 1490);
-        let phase = phase_of(&mut connection);
-        assert!(rt;
-            matches!(phase.err(), Some(PhaseError::UnexpectedEof)),
-            "{n}"
-        );
+        assert!(rt; ends_too_early(rt.alloc(), &mail[..n])?, "{n}");
     }
-    let mut connection = connection_of(rt.alloc(), mail, 1490);
-    let phase = phase_of(&mut connection).ok().ok_or("a phase")?;
-    let keys = phase.a.ok().ok_or("lengths")?;
-    assert_eq!(rt; keys.as_slice(), [1088].as_slice());
+    assert!(rt; has_one_key(rt.alloc(), mail)?);
     Ok(())
 }
 
@@ -87,13 +92,22 @@ fn connection_with(
     Ok(connection_of(alloc, text, 65536))
 }
 
+/// Whether nothing is received of a connection, since its text is malformed.
+fn is_malformed(connection: &mut Connection<CleanSource, MemSink>) -> bool {
+    matches!(connection.receive(), Err(PhaseError::InvalidData))
+}
+
+/// Whether nothing is received of a connection, since its budget has ended.
+fn is_too_long(connection: &mut Connection<CleanSource, MemSink>) -> bool {
+    matches!(connection.receive(), Err(PhaseError::TooMuch))
+}
+
 #[test]
 fn malformed_texts_are_refused_again(rt: HostRuntime) -> Result<(), Fail> {
     for &(front, part, count) in MALFORMED {
         let mut connection = connection_with(rt.alloc(), front, part, count)?;
         for _ in 0..2 {
-            let refused = connection.receive().err();
-            assert!(rt; matches!(refused, Some(PhaseError::InvalidData)), "{count}");
+            assert!(rt; is_malformed(&mut connection), "{count}");
         }
     }
     Ok(())
@@ -104,8 +118,7 @@ fn long_texts_end_with_the_budget(rt: HostRuntime) -> Result<(), Fail> {
     for &(front, part, count) in TOO_LONG {
         let mut connection = connection_with(rt.alloc(), front, part, count)?;
         for _ in 0..2 {
-            let refused = connection.receive().err();
-            assert!(rt; matches!(refused, Some(PhaseError::TooMuch)), "{count}");
+            assert!(rt; is_too_long(&mut connection), "{count}");
         }
     }
     Ok(())

@@ -1,13 +1,15 @@
 //! The KEM of ML-KEM at each set: the pairs of keys that an independent model derives, and each call
 //! once.
 
+use crate::refusals::reading;
 use hpke::laws::{lattice_identifiers, lattice_refusals};
 use hpke::{
-    AesGcm256, Deserializable, HkdfSha256, HpkeError, Kem, LatticeKem, LatticePrivateKey,
-    LatticePublicKey, OpModeR, OpModeS, Serializable, single_shot_open, single_shot_seal,
+    Aead, AesGcm256, Deserializable, HkdfSha256, HpkeError, Kdf, Kem, LatticeKem,
+    LatticePrivateKey, LatticePublicKey, OpModeR, OpModeS, Serializable, single_shot_open,
+    single_shot_seal,
 };
-use kem_hash::Sha2Hash;
-use ml_kem::{Ciphertext, DecapsulationKey, MlKem512, MlKem768, MlKem1024, ParameterSet};
+use kem_hash::{KemHash, Sha2Hash};
+use ml_kem::{Ciphertext, DecapsulationKey, KemError, MlKem512, MlKem768, MlKem1024, ParameterSet};
 use rand_chacha::ChaCha20Rng;
 use rand_core::{Rng, SeedableRng};
 use sha2::{Digest, Sha256};
@@ -74,12 +76,21 @@ fn bytes_of<T: Serializable>(alloc: Global, value: &T) -> Result<Vec<u8>, AllocE
     value.to_bytes(alloc)
 }
 
+// The bytes of a pair.
+fn pair_bytes<S: Serializable, T: Serializable>(
+    alloc: Global,
+    sk: &S,
+    pk: &T,
+) -> Result<PairBytes, AllocError> {
+    let private = bytes_of(alloc, sk)?;
+    let public = bytes_of(alloc, pk)?;
+    Ok(PairBytes { private, public })
+}
+
 // The bytes of the pair that keying material gives.
 fn derived<K: Kem>(alloc: Global, ikm: &[u8]) -> Result<PairBytes, Fail> {
     let (sk, pk) = K::derive_keypair(alloc, ikm)?;
-    let private = bytes_of(alloc, &sk)?;
-    let public = bytes_of(alloc, &pk)?;
-    Ok(PairBytes { private, public })
+    Ok(pair_bytes(alloc, &sk, &pk)?)
 }
 
 // Whether keying material gives the row's seed and public key.
@@ -119,28 +130,40 @@ fn derived_pairs_1024(rt: HostRuntime) -> Result<(), Fail> {
 fn drawn<K: Kem>(alloc: Global) -> Result<PairBytes, Fail> {
     let mut rng = ChaCha20Rng::from_seed([7; 32]);
     let (sk, pk) = K::gen_keypair(alloc, &mut rng)?;
-    let private = bytes_of(alloc, &sk)?;
-    let public = bytes_of(alloc, &pk)?;
-    Ok(PairBytes { private, public })
+    Ok(pair_bytes(alloc, &sk, &pk)?)
 }
 
 // The bytes of the pair of a private key that is read from its bytes.
 fn made<K: Kem>(alloc: Global, private: &[u8]) -> Result<PairBytes, Fail> {
     let sk = K::PrivateKey::from_bytes(alloc, private)?;
     let pk = K::sk_to_pk(alloc, &sk)?;
-    let private = bytes_of(alloc, &sk)?;
-    let public = bytes_of(alloc, &pk)?;
-    Ok(PairBytes { private, public })
+    Ok(pair_bytes(alloc, &sk, &pk)?)
+}
+
+// The private key of a seed's decapsulation key.
+fn private_of_seed<P: ParameterSet, H: KemHash>(
+    alloc: Global,
+    seed: &[u8; 64],
+) -> Result<LatticePrivateKey<P, H>, KemError> {
+    let key = DecapsulationKey::<P, H>::from_seed(alloc, seed)?;
+    Ok(LatticePrivateKey::new(key))
+}
+
+// The public key of a seed's decapsulation key.
+fn public_of_seed<P: ParameterSet, H: KemHash>(
+    alloc: Global,
+    seed: &[u8; 64],
+) -> Result<LatticePublicKey<P, H>, KemError> {
+    let key = DecapsulationKey::<P, H>::from_seed(alloc, seed)?;
+    let copy = key.encapsulation_key().try_clone()?;
+    Ok(LatticePublicKey::new(copy))
 }
 
 // The bytes of the pair of a decapsulation key.
-fn of_key<P: ParameterSet>(alloc: Global, seed: &[u8; 64]) -> Result<PairBytes, Fail> {
-    let key = DecapsulationKey::<P, Sha2Hash>::from_seed(alloc, seed)?;
-    let pk = LatticePublicKey::new(key.encapsulation_key().try_clone()?);
-    let sk = LatticePrivateKey::new(key);
-    let private = bytes_of(alloc, &sk)?;
-    let public = bytes_of(alloc, &pk)?;
-    Ok(PairBytes { private, public })
+fn of_key<P: ParameterSet, H: KemHash>(alloc: Global, seed: &[u8; 64]) -> Result<PairBytes, Fail> {
+    let sk = private_of_seed::<P, H>(alloc, seed)?;
+    let pk = public_of_seed::<P, H>(alloc, seed)?;
+    Ok(pair_bytes(alloc, &sk, &pk)?)
 }
 
 // The bytes of a public key that is read from its bytes.
@@ -156,33 +179,36 @@ fn is_same(left: &PairBytes, right: &PairBytes) -> bool {
 
 // Whether a pair that is drawn, what the same 64 bytes derive, and what is made of the pair's bytes
 // are one pair.
-fn is_one_pair<P: ParameterSet>(alloc: Global) -> Result<bool, Fail> {
+fn is_one_pair<K: Kem>(alloc: Global) -> Result<bool, Fail> {
     let mut ikm = [0; 64];
     ChaCha20Rng::from_seed([7; 32]).fill_bytes(&mut ikm);
-    let drawn = drawn::<Lattice<P>>(alloc)?;
-    let derived = derived::<Lattice<P>>(alloc, &ikm)?;
-    let made = made::<Lattice<P>>(alloc, drawn.private.as_slice())?;
-    let read = read::<Lattice<P>>(alloc, drawn.public.as_slice())?;
+    let drawn = drawn::<K>(alloc)?;
+    let derived = derived::<K>(alloc, &ikm)?;
+    let made = made::<K>(alloc, drawn.private.as_slice())?;
+    let read = read::<K>(alloc, drawn.public.as_slice())?;
     let is_read = read.as_slice() == drawn.public.as_slice();
     Ok(is_same(&drawn, &derived) && is_same(&drawn, &made) && is_read)
 }
 
 #[test]
 fn pairs_of_keys(rt: HostRuntime) -> Result<(), Fail> {
-    assert!(rt; is_one_pair::<MlKem512>(rt.alloc())?);
-    assert!(rt; is_one_pair::<MlKem768>(rt.alloc())?);
-    assert!(rt; is_one_pair::<MlKem1024>(rt.alloc())?);
+    assert!(rt; is_one_pair::<Lattice<MlKem512>>(rt.alloc())?);
+    assert!(rt; is_one_pair::<Lattice<MlKem768>>(rt.alloc())?);
+    assert!(rt; is_one_pair::<Lattice<MlKem1024>>(rt.alloc())?);
     Ok(())
+}
+
+// Whether the pair of a seed's decapsulation key is what is made of the seed.
+fn is_of_key<P: ParameterSet, H: KemHash>(alloc: Global, seed: &[u8; 64]) -> Result<bool, Fail> {
+    let pair = of_key::<P, H>(alloc, seed)?;
+    let made = made::<LatticeKem<P, H>>(alloc, seed)?;
+    Ok(is_same(&pair, &made) && pair.private.as_slice() == seed.as_slice())
 }
 
 // Keys of ML-KEM are keys of the KEM.
 #[test]
 fn keys_of_a_seed(rt: HostRuntime) -> Result<(), Fail> {
-    let seed = [5; 64];
-    let pair = of_key::<MlKem768>(rt.alloc(), &seed)?;
-    let made = made::<Lattice<MlKem768>>(rt.alloc(), &seed)?;
-    assert!(rt; is_same(&pair, &made));
-    assert_eq!(rt; pair.private.as_slice(), seed.as_slice());
+    assert!(rt; is_of_key::<MlKem768, Sha2Hash>(rt.alloc(), &[5; 64])?);
     Ok(())
 }
 
@@ -194,10 +220,10 @@ fn laws_are_calls(_rt: HostRuntime) -> Result<(), Fail> {
 }
 
 // What a recipient opens of a text that a sender sealed to its key.
-fn opened<K: Kem>(alloc: Global, text: &[u8]) -> Result<Vec<u8>, Fail> {
+fn opened<A: Aead, D: Kdf, K: Kem>(alloc: Global, text: &[u8]) -> Result<Vec<u8>, Fail> {
     let mut rng = ChaCha20Rng::from_seed([9; 32]);
     let (sk, pk) = K::gen_keypair(alloc, &mut rng)?;
-    let (encapped, sealed) = single_shot_seal::<AesGcm256, HkdfSha256, K, ChaCha20Rng>(
+    let (encapped, sealed) = single_shot_seal::<A, D, K, ChaCha20Rng>(
         alloc,
         &OpModeS::Base,
         &pk,
@@ -206,7 +232,7 @@ fn opened<K: Kem>(alloc: Global, text: &[u8]) -> Result<Vec<u8>, Fail> {
         b"associated",
         &mut rng,
     )?;
-    Ok(single_shot_open::<AesGcm256, HkdfSha256, K>(
+    Ok(single_shot_open::<A, D, K>(
         alloc,
         &OpModeR::Base,
         &sk,
@@ -217,49 +243,41 @@ fn opened<K: Kem>(alloc: Global, text: &[u8]) -> Result<Vec<u8>, Fail> {
     )?)
 }
 
-#[test]
-fn texts_are_opened(rt: HostRuntime) -> Result<(), Fail> {
+// Whether a recipient opens what a sender sealed.
+fn is_opened<P: ParameterSet>(alloc: Global) -> Result<bool, Fail> {
     let text = b"text".as_slice();
-    assert_eq!(rt;
-        opened::<Lattice<MlKem512>>(rt.alloc(), text)?.as_slice(),
-        text
-    );
-    assert_eq!(rt;
-        opened::<Lattice<MlKem768>>(rt.alloc(), text)?.as_slice(),
-        text
-    );
-    assert_eq!(rt;
-        opened::<Lattice<MlKem1024>>(rt.alloc(), text)?.as_slice(),
-        text
-    );
-    Ok(())
+    let opened = opened::<AesGcm256, HkdfSha256, Lattice<P>>(alloc, text)?;
+    Ok(opened.as_slice() == text)
 }
 
-// What a value refuses bytes with.
-fn refusal<T: Deserializable + Drop>(alloc: Global, bytes: &[u8]) -> Option<HpkeError> {
-    T::from_bytes(alloc, bytes).err()
+#[test]
+fn texts_are_opened(rt: HostRuntime) -> Result<(), Fail> {
+    assert!(rt; is_opened::<MlKem512>(rt.alloc())?);
+    assert!(rt; is_opened::<MlKem768>(rt.alloc())?);
+    assert!(rt; is_opened::<MlKem1024>(rt.alloc())?);
+    Ok(())
 }
 
 #[test]
 fn refused_private_keys(rt: HostRuntime) -> Result<(), Fail> {
-    let short = refusal::<LatticePrivateKey<MlKem768, Sha2Hash>>(rt.alloc(), &[0xFF; 63]);
-    assert_eq!(rt; short, Some(HpkeError::IncorrectInputLength(64, 63)));
+    let short = reading::<LatticePrivateKey<MlKem768, Sha2Hash>>(rt.alloc(), &[0xFF; 63]);
+    assert!(rt; short == Some(HpkeError::IncorrectInputLength(64, 63)));
     Ok(())
 }
 
 #[test]
 fn refused_public_keys(rt: HostRuntime) -> Result<(), Fail> {
-    let short = refusal::<LatticePublicKey<MlKem768, Sha2Hash>>(rt.alloc(), &[0xFF; 1183]);
-    assert_eq!(rt; short, Some(HpkeError::IncorrectInputLength(1184, 1183)));
-    let unreduced = refusal::<LatticePublicKey<MlKem768, Sha2Hash>>(rt.alloc(), &[0xFF; 1184]);
-    assert_eq!(rt; unreduced, Some(HpkeError::ValidationError));
+    let short = reading::<LatticePublicKey<MlKem768, Sha2Hash>>(rt.alloc(), &[0xFF; 1183]);
+    assert!(rt; short == Some(HpkeError::IncorrectInputLength(1184, 1183)));
+    let unreduced = reading::<LatticePublicKey<MlKem768, Sha2Hash>>(rt.alloc(), &[0xFF; 1184]);
+    assert!(rt; unreduced == Some(HpkeError::ValidationError));
     Ok(())
 }
 
 #[test]
 fn refused_encapsulated_keys(rt: HostRuntime) -> Result<(), Fail> {
-    let long = refusal::<Ciphertext<MlKem768>>(rt.alloc(), &[0xFF; 1184]);
-    assert_eq!(rt; long, Some(HpkeError::IncorrectInputLength(1088, 1184)));
+    let long = reading::<Ciphertext<MlKem768>>(rt.alloc(), &[0xFF; 1184]);
+    assert!(rt; long == Some(HpkeError::IncorrectInputLength(1088, 1184)));
     Ok(())
 }
 
@@ -282,19 +300,18 @@ fn secrets_are_found(rt: HostRuntime) -> Result<(), Fail> {
 }
 
 // What a sender with an identity is refused with, and a recipient that is told of one.
-fn identity_refusals(alloc: Global) -> Result<[Option<HpkeError>; 2], Fail> {
+fn identity_refusals<K: Kem>(alloc: Global) -> Result<[Option<HpkeError>; 2], Fail> {
     let mut rng = ChaCha20Rng::from_seed([9; 32]);
-    let (sk, pk) = Lattice768::gen_keypair(alloc, &mut rng)?;
-    let encapped = Ciphertext::<MlKem768>::from_bytes(alloc, &[0; 1088])?;
-    let sending = Lattice768::encap(alloc, &pk, Some(&sk), Some(&pk), &mut rng).err();
-    let receiving = Lattice768::decap(alloc, &sk, Some(&pk), &encapped).err();
+    let (sk, pk) = K::gen_keypair(alloc, &mut rng)?;
+    let encapped = K::EncappedKey::from_bytes(alloc, &[0; 1088])?;
+    let sending = K::encap(alloc, &pk, Some(&sk), Some(&pk), &mut rng).err();
+    let receiving = K::decap(alloc, &sk, Some(&pk), &encapped).err();
     Ok([sending, receiving])
 }
 
 #[test]
 fn identities_are_refused(rt: HostRuntime) -> Result<(), Fail> {
-    let refused = identity_refusals(rt.alloc())?;
-    let want = [Some(HpkeError::EncapError), Some(HpkeError::DecapError)];
-    assert_eq!(rt; refused, want);
+    let refused = identity_refusals::<Lattice768>(rt.alloc())?;
+    assert!(rt; refused == [Some(HpkeError::EncapError), Some(HpkeError::DecapError)]);
     Ok(())
 }

@@ -8,6 +8,8 @@ mod key_kem;
 #[cfg(test)]
 mod lattice_kem;
 #[cfg(test)]
+mod refusals;
+#[cfg(test)]
 mod refusing_kem;
 #[cfg(test)]
 mod rows;

@@ -2,9 +2,9 @@
 
 ghost use Rattle.std.specs.Prelude.{◌≡◌, length};
 
+use crate::refusals::{derivation, drawing};
 use hpke::{HpkeError, Kem, MaskKem, MaskKey, SecretSize, SharedSecret};
-use rand_chacha::ChaCha20Rng;
-use rand_core::{Rng, SeedableRng};
+use rand_core::Rng;
 use std::alloc::{AllocError, Global};
 use std::test::Fail;
 
@@ -107,11 +107,8 @@ impl Kem for RefusingKem {
 // words of the generator, are gone then.
 #[test]
 fn material_that_gives_no_keys_is_refused(rt: HostRuntime) -> Result<(), Fail> {
-    let derived = RefusingKem::derive_keypair(rt.alloc(), &[7; 32]).err();
-    assert_eq!(rt; derived, Some(HpkeError::ValidationError));
-    let mut csprng = ChaCha20Rng::from_seed([7; 32]);
-    let drawn = RefusingKem::gen_keypair(rt.alloc(), &mut csprng).err();
-    assert_eq!(rt; drawn, Some(HpkeError::ValidationError));
-    assert_eq!(rt; csprng.get_word_pos(), 8);
+    let refused = Some(HpkeError::ValidationError);
+    assert!(rt; derivation::<RefusingKem>(rt.alloc(), &[7; 32]) == refused);
+    assert!(rt; drawing::<RefusingKem>(rt.alloc()) == (refused, 8));
     Ok(())
 }

@@ -2,7 +2,7 @@
 //! an independent model.
 
 use crate::key_kem::KeyKem;
-use crate::rows::{AeadName, KdfName, ROWS, Row};
+use crate::rows::{AeadName, KdfName, Row, row_with_a_sender, rows};
 use hpke::{
     Aead, AeadCtxR, AeadCtxS, AesGcm128, AesGcm256, BaseAead, Deserializable, ExportOnlyAead,
     HkdfSha256, HkdfSha384, HkdfSha512, HpkeError, Kdf, MaskKey, OpModeR, OpModeS, PskBundle,
@@ -171,32 +171,43 @@ fn holds_by_kdf<A: Aead>(alloc: Global, row: &Row) -> Result<bool, Fail> {
     }
 }
 
+// Whether a row holds by its AEAD.
+fn holds_by_aead(alloc: Global, row: &Row) -> Result<bool, Fail> {
+    match row.aead {
+        AeadName::Aes128 => holds_by_kdf::<AesGcm128>(alloc, row),
+        AeadName::Aes256 => holds_by_kdf::<AesGcm256>(alloc, row),
+        AeadName::ExportOnly => holds_by_kdf::<ExportOnlyAead>(alloc, row),
+    }
+}
+
 #[test]
 fn suites_in_each_mode(rt: HostRuntime) -> Result<(), Fail> {
-    for row in ROWS {
-        let held = match row.aead {
-            AeadName::Aes128 => holds_by_kdf::<AesGcm128>(rt.alloc(), &row)?,
-            AeadName::Aes256 => holds_by_kdf::<AesGcm256>(rt.alloc(), &row)?,
-            AeadName::ExportOnly => holds_by_kdf::<ExportOnlyAead>(rt.alloc(), &row)?,
-        };
-        assert!(rt; held);
+    for row in rows() {
+        assert!(rt; holds_by_aead(rt.alloc(), row)?);
     }
     Ok(())
+}
+
+// What the recipient of another sender refuses a row's first text with.
+fn other_sender_refusal<A: Aead, D: Kdf, const ID: u16>(
+    alloc: Global,
+    row: &Row,
+) -> Result<Option<HpkeError>, Fail> {
+    let (mut sender, _recipient): Sides<A, D, ID> = set_up(alloc, row)?;
+    let sealed = sender.seal(alloc, TEXT, AAD)?;
+    let other = Row {
+        secret: OTHER_SENDER,
+        ..*row
+    };
+    let (_sender, mut recipient): Sides<A, D, ID> = set_up(alloc, &other)?;
+    Ok(recipient.open(alloc, sealed.as_slice(), AAD).err())
 }
 
 // Another sender's key gives another context.
 #[test]
 fn another_sender_is_refused(rt: HostRuntime) -> Result<(), Fail> {
-    let alloc = rt.alloc();
-    let row = ROWS[8];
-    let (mut sender, _recipient): Sides<AesGcm256, HkdfSha512, 0x0041> = set_up(alloc, &row)?;
-    let sealed = sender.seal(alloc, TEXT, AAD)?;
-    let other = Row {
-        secret: OTHER_SENDER,
-        ..row
-    };
-    let (_sender, mut recipient): Sides<AesGcm256, HkdfSha512, 0x0041> = set_up(alloc, &other)?;
-    let refused = recipient.open(alloc, sealed.as_slice(), AAD).err();
-    assert_eq!(rt; refused, Some(HpkeError::OpenError));
+    let row = row_with_a_sender();
+    let refused = other_sender_refusal::<AesGcm256, HkdfSha512, 0x0041>(rt.alloc(), row)?;
+    assert!(rt; refused == Some(HpkeError::OpenError));
     Ok(())
 }

@@ -54,13 +54,13 @@ fn opened<P: ParameterSet, D: Kdf, A: Aead>(alloc: Global, mail: &Mail) -> Resul
 #[test]
 fn opens_a_mail_at_768(rt: HostRuntime) -> Result<(), Fail> {
     let message = opened::<MlKem768, HkdfSha256, AesGcm128>(rt.alloc(), &MAIL_768)?;
-    assert_eq!(rt; message.as_str(), MAIL_768.message);
+    assert!(rt; message.as_str() == MAIL_768.message);
     Ok(())
 }
 
 #[test]
 fn opens_a_mail_at_1024(rt: HostRuntime) -> Result<(), Fail> {
     let message = opened::<MlKem1024, HkdfSha512, AesGcm256>(rt.alloc(), &MAIL_1024)?;
-    assert_eq!(rt; message.as_str(), MAIL_1024.message);
+    assert!(rt; message.as_str() == MAIL_1024.message);
     Ok(())
 }

@@ -125,14 +125,19 @@ const DERIVED: [[&str; 4]; 3] = [
     ],
 ];
 
+// Whether the 32 bytes of a row are derived.
+fn is_derived(alloc: Global, row: &[&str; 4]) -> Result<bool, Fail> {
+    let salt = hex::decode(alloc, row[0])?;
+    let label = hex::decode(alloc, row[1])?;
+    let ikm = hex::decode(alloc, row[2])?;
+    let okm = hkdf(salt.as_slice(), label.as_slice(), ikm.as_slice());
+    Ok(hex::encode(alloc, &okm)?.as_str() == row[3])
+}
+
 #[test]
 fn derives_keys(rt: HostRuntime) -> Result<(), Fail> {
-    for [salt, label, ikm, want] in DERIVED {
-        let salt = hex::decode(rt.alloc(), salt)?;
-        let label = hex::decode(rt.alloc(), label)?;
-        let ikm = hex::decode(rt.alloc(), ikm)?;
-        let okm = hkdf(salt.as_slice(), label.as_slice(), ikm.as_slice());
-        assert_eq!(rt; hex::encode(rt.alloc(), &okm)?.as_str(), want);
+    for row in &DERIVED {
+        assert!(rt; is_derived(rt.alloc(), row)?);
     }
     Ok(())
 }
@@ -230,21 +235,30 @@ fn decodes_texts(rt: HostRuntime) {
     assert!(rt; decoded(rt.alloc(), "A1G7SGD8") == Err("text"));
 }
 
+// Whether a part and a key are written to a sink as the text that is given.
+fn is_written(alloc: Global, hrp: &Hrp, text: &str) -> Result<bool, Fail> {
+    let mut sink = MemSink::new(alloc, Vec::new(alloc));
+    bech32_encode_to_fmt(alloc, &mut sink, hrp, &KEY)?;
+    Ok(sink.bytes() == text.as_bytes())
+}
+
+// Whether a text is read as the part `12345678` and the key.
+fn is_key(alloc: Global, text: &str) -> Result<bool, bool> {
+    bech32_decode(
+        alloc,
+        text,
+        |_| false,
+        |_| Ok(()),
+        |part, bytes| Ok(part.as_str() == "12345678" && bytes == KEY.as_slice()),
+    )
+}
+
 #[test]
 fn writes_texts(rt: HostRuntime) -> Result<(), Fail> {
     let hrp = Hrp::parse("12345678")?;
     let text = bech32_encode(rt.alloc(), &hrp, &KEY)?;
-    let mut sink = MemSink::new(rt.alloc(), Vec::new(rt.alloc()));
-    bech32_encode_to_fmt(rt.alloc(), &mut sink, &hrp, &KEY)?;
-    assert_eq!(rt; sink.bytes(), text.as_str().as_bytes());
-    let back = bech32_decode(
-        rt.alloc(),
-        text.as_str(),
-        |_| false,
-        |_| Ok(()),
-        |part, bytes| Ok(part.as_str() == "12345678" && bytes == KEY.as_slice()),
-    );
-    assert!(rt; back == Ok(true));
+    assert!(rt; is_written(rt.alloc(), &hrp, text.as_str())?);
+    assert!(rt; is_key(rt.alloc(), text.as_str()) == Ok(true));
     Ok(())
 }
 
@@ -253,9 +267,9 @@ fn makes_file_keys(rt: HostRuntime) -> Result<(), Fail> {
     let mut want = [0; FILE_KEY_BYTES];
     want[0] = 1;
     let key = FileKey::init_with_mut(rt.alloc(), |bytes| bytes[0] = 1)?;
-    assert_eq!(rt; key.expose_secret(), &want);
+    assert!(rt; *key.expose_secret() == want);
     let key = FileKey::new(Box::new(rt.alloc(), want)?);
-    assert_eq!(rt; key.expose_secret(), &want);
+    assert!(rt; *key.expose_secret() == want);
     Ok(())
 }
 

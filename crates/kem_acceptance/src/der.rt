@@ -2,11 +2,11 @@
 //! standards in another language; what that model answers to changed texts; and each law once.
 
 use hash_families::{Ones, RepeatingHash};
-use kem_hash::Sha2Hash;
+use kem_hash::{KemHash, Sha2Hash};
 use key_der::{
     DerError, from_pkcs8_der, from_public_key_der, laws, oid, to_pkcs8_der, to_public_key_der,
 };
-use ml_kem::{DecapsulationKey512, MlKem512, MlKem768, MlKem1024, ParameterSet};
+use ml_kem::{DecapsulationKey, MlKem512, MlKem768, MlKem1024, ParameterSet};
 use sha2::{Digest, Sha256};
 use std::alloc::Global;
 use std::test::Fail;
@@ -33,50 +33,72 @@ const PUBLIC_512_HASH: &[u8; 32] =
 type NoKeys = RepeatingHash<Ones>;
 
 // Whether a private key is read, and written again to the byte.
-fn is_kept<P: ParameterSet>(alloc: Global, der: &[u8]) -> Result<bool, DerError> {
-    let key = from_pkcs8_der::<P, Sha2Hash>(alloc, der)?;
+fn is_kept<P: ParameterSet, H: KemHash>(alloc: Global, der: &[u8]) -> Result<bool, DerError> {
+    let key = from_pkcs8_der::<P, H>(alloc, der)?;
     let again = to_pkcs8_der(alloc, &key)?;
     Ok(again.as_slice() == der)
 }
 
-// Where a text is no private key of ML-KEM-512.
-fn private_place(alloc: Global, der: &[u8]) -> Option<usize> {
-    match from_pkcs8_der::<MlKem512, NoKeys>(alloc, der) {
+// Where a text is no private key of a parameter set.
+fn private_place<P: ParameterSet, H: KemHash>(alloc: Global, der: &[u8]) -> Option<usize> {
+    match from_pkcs8_der::<P, H>(alloc, der) {
         Err(DerError::NotThisShape(place)) => Some(place),
         _ => None,
     }
+}
+
+// Where a text is no private key of ML-KEM-512.
+fn private_place_512(alloc: Global, der: &[u8]) -> Option<usize> {
+    private_place::<MlKem512, NoKeys>(alloc, der)
 }
 
 // Where a text is no public key of a parameter set.
-fn public_place<P: ParameterSet>(alloc: Global, der: &[u8]) -> Option<usize> {
-    match from_public_key_der::<P, NoKeys>(alloc, der) {
+fn public_place<P: ParameterSet, H: KemHash>(alloc: Global, der: &[u8]) -> Option<usize> {
+    match from_public_key_der::<P, H>(alloc, der) {
         Err(DerError::NotThisShape(place)) => Some(place),
         _ => None,
     }
 }
 
+// Where a text is no public key of ML-KEM-512.
+fn public_place_512(alloc: Global, der: &[u8]) -> Option<usize> {
+    public_place::<MlKem512, NoKeys>(alloc, der)
+}
+
 // Whether a text is refused for its key.
-fn is_invalid(alloc: Global, der: &[u8]) -> bool {
+fn is_invalid<P: ParameterSet, H: KemHash>(alloc: Global, der: &[u8]) -> bool {
     matches!(
-        from_public_key_der::<MlKem512, NoKeys>(alloc, der),
+        from_public_key_der::<P, H>(alloc, der),
         Err(DerError::InvalidKey)
     )
 }
 
+// Whether a text of ML-KEM-512 is refused for its key.
+fn is_invalid_512(alloc: Global, der: &[u8]) -> bool {
+    is_invalid::<MlKem512, NoKeys>(alloc, der)
+}
+
 #[test]
 fn private_keys_of_openssl(rt: HostRuntime) -> Result<(), Fail> {
-    assert!(rt; is_kept::<MlKem768>(rt.alloc(), PRIVATE_768)?);
-    assert!(rt; is_kept::<MlKem1024>(rt.alloc(), PRIVATE_1024)?);
+    assert!(rt; is_kept::<MlKem768, Sha2Hash>(rt.alloc(), PRIVATE_768)?);
+    assert!(rt; is_kept::<MlKem1024, Sha2Hash>(rt.alloc(), PRIVATE_1024)?);
     Ok(())
+}
+
+// Whether the public key of the zero seed is written as the text of this SHA-256, and read again.
+fn is_public_text<P: ParameterSet, H: KemHash>(
+    alloc: Global,
+    hash: &[u8; 32],
+) -> Result<bool, Fail> {
+    let key = DecapsulationKey::<P, H>::from_seed(alloc, &[0; 64])?;
+    let der = to_public_key_der(alloc, key.encapsulation_key())?;
+    let read = from_public_key_der::<P, H>(alloc, der.as_slice())?;
+    Ok(Sha256::digest(der.as_slice()) == *hash && read == *key.encapsulation_key())
 }
 
 #[test]
 fn public_key_of_the_zero_seed(rt: HostRuntime) -> Result<(), Fail> {
-    let key = DecapsulationKey512::<Sha2Hash>::from_seed(rt.alloc(), &[0; 64])?;
-    let der = to_public_key_der(rt.alloc(), key.encapsulation_key())?;
-    assert!(rt; Sha256::digest(der.as_slice()) == *PUBLIC_512_HASH);
-    let read = from_public_key_der::<MlKem512, Sha2Hash>(rt.alloc(), der.as_slice())?;
-    assert!(rt; read == *key.encapsulation_key());
+    assert!(rt; is_public_text::<MlKem512, Sha2Hash>(rt.alloc(), PUBLIC_512_HASH)?);
     Ok(())
 }
 
@@ -87,15 +109,15 @@ fn other_private_texts(rt: HostRuntime) {
     for i in 0..22 {
         let mut other = der;
         other[i] ^= 1;
-        assert!(rt; private_place(rt.alloc(), &other) == Some(i));
+        assert!(rt; private_place_512(rt.alloc(), &other) == Some(i));
     }
     for size in 0..86 {
-        assert!(rt; private_place(rt.alloc(), &der[..size]) == Some(size));
+        assert!(rt; private_place_512(rt.alloc(), &der[..size]) == Some(size));
     }
     let mut longer = [0; 87];
     longer[..86].copy_from_slice(&der);
-    assert!(rt; private_place(rt.alloc(), &longer) == Some(86));
-    assert!(rt; private_place(rt.alloc(), PRIVATE_768) == Some(17));
+    assert!(rt; private_place_512(rt.alloc(), &longer) == Some(86));
+    assert!(rt; private_place_512(rt.alloc(), PRIVATE_768) == Some(17));
 }
 
 #[test]
@@ -105,13 +127,13 @@ fn other_public_texts(rt: HostRuntime) {
     for i in 0..22 {
         let mut other = der;
         other[i] ^= 1;
-        assert!(rt; public_place::<MlKem512>(rt.alloc(), &other) == Some(i));
+        assert!(rt; public_place_512(rt.alloc(), &other) == Some(i));
     }
-    assert!(rt; public_place::<MlKem512>(rt.alloc(), &der[..821]) == Some(821));
+    assert!(rt; public_place_512(rt.alloc(), &der[..821]) == Some(821));
     let mut longer = [0; 823];
     longer[..822].copy_from_slice(&der);
-    assert!(rt; public_place::<MlKem512>(rt.alloc(), &longer) == Some(822));
-    assert!(rt; public_place::<MlKem768>(rt.alloc(), &der) == Some(2));
+    assert!(rt; public_place_512(rt.alloc(), &longer) == Some(822));
+    assert!(rt; public_place::<MlKem768, NoKeys>(rt.alloc(), &der) == Some(2));
 }
 
 #[test]
@@ -120,32 +142,44 @@ fn invalid_public_keys(rt: HostRuntime) {
     der[..22].copy_from_slice(PUBLIC_HEADER_512);
     // The first number 3328, then 3329.
     der[23] = 0x0d;
-    assert!(rt; !is_invalid(rt.alloc(), &der));
+    assert!(rt; !is_invalid_512(rt.alloc(), &der));
     der[22] = 0x01;
-    assert!(rt; is_invalid(rt.alloc(), &der));
+    assert!(rt; is_invalid_512(rt.alloc(), &der));
     // The last number 3329.
     der[22] = 0x00;
     der[788] = 0x10;
     der[789] = 0xd0;
-    assert!(rt; is_invalid(rt.alloc(), &der));
+    assert!(rt; is_invalid_512(rt.alloc(), &der));
     // The header is judged first.
     der[2] = 0xff;
-    assert!(rt; public_place::<MlKem512>(rt.alloc(), &der) == Some(2));
+    assert!(rt; public_place_512(rt.alloc(), &der) == Some(2));
+}
+
+// Whether a key that is read from its expanded form is not written, since it has no seed.
+fn is_not_written<P: ParameterSet, H: KemHash>(alloc: Global) -> Result<bool, Fail> {
+    let key = DecapsulationKey::<P, H>::from_seed(alloc, &[0; 64])?;
+    let form = key.to_expanded_bytes()?;
+    let read = DecapsulationKey::<P, H>::from_expanded(alloc, form.as_slice())?;
+    Ok(matches!(to_pkcs8_der(alloc, &read), Err(DerError::NoSeed)))
 }
 
 #[test]
 fn a_key_without_seed(rt: HostRuntime) -> Result<(), Fail> {
-    let key = DecapsulationKey512::<Sha2Hash>::from_seed(rt.alloc(), &[0; 64])?;
-    let form = key.to_expanded_bytes()?;
-    let read = DecapsulationKey512::<Sha2Hash>::from_expanded(rt.alloc(), form.as_slice())?;
-    assert!(rt; matches!(to_pkcs8_der(rt.alloc(), &read), Err(DerError::NoSeed)));
+    assert!(rt; is_not_written::<MlKem512, Sha2Hash>(rt.alloc())?);
     Ok(())
+}
+
+// Whether the seed of a text gives no key.
+fn is_exhausted<P: ParameterSet, H: KemHash>(alloc: Global, der: &[u8]) -> bool {
+    matches!(
+        from_pkcs8_der::<P, H>(alloc, der),
+        Err(DerError::XofExhausted)
+    )
 }
 
 #[test]
 fn an_exhausted_xof_gives_no_key(rt: HostRuntime) {
-    let refused = from_pkcs8_der::<MlKem768, NoKeys>(rt.alloc(), PRIVATE_768);
-    assert!(rt; matches!(refused, Err(DerError::XofExhausted)));
+    assert!(rt; is_exhausted::<MlKem768, NoKeys>(rt.alloc(), PRIVATE_768));
 }
 
 #[test]

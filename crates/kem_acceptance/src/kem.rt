@@ -7,6 +7,7 @@ mod zero_draw;
 ghost use Rattle.std.specs.Prelude.{◌<◌};
 
 use hash_families::{Ones, RepeatingHash, SmallAndFifty};
+use kem_hash::KemHash;
 use ml_kem::{compress, decompress, laws, sample_ntt, sample_poly_cbd};
 
 #[test]
@@ -25,12 +26,16 @@ fn roundings(rt: HostRuntime) {
     assert!(rt; compress(10, 1665) == 512 && decompress(10, 512) == 1665);
 }
 
+// The first and the last number of a sample, where there is one.
+fn sampled_ends<H: KemHash>() -> Option<(u32, u32)> {
+    let values = sample_ntt::<H>(&[7; 32], 1, 2)?.into_array();
+    Some((values[0], values[255]))
+}
+
 #[test]
 fn samples(rt: HostRuntime) {
-    let sample = sample_ntt::<RepeatingHash<SmallAndFifty>>(&[7; 32], 1, 2);
-    let values = sample.unwrap_or_default().into_array();
-    assert!(rt; values[0] == 1 && values[255] == 50);
-    assert!(rt; sample_ntt::<RepeatingHash<Ones>>(&[7; 32], 1, 2).is_none());
+    assert!(rt; sampled_ends::<RepeatingHash<SmallAndFifty>>() == Some((1, 50)));
+    assert!(rt; sampled_ends::<RepeatingHash<Ones>>().is_none());
 }
 
 #[test]

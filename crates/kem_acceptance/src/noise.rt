@@ -17,7 +17,8 @@ use hash_families::OneByteHash;
 use hex::FromHex;
 use kem_hash::{KemHash, Sha2Hash};
 use ml_kem::{
-    B32, DecapsulationKey, MlKem512, MlKem768, MlKem1024, ParameterSet, compress, decompress,
+    B32, DecapsulationKey, KemError, MlKem512, MlKem768, MlKem1024, ParameterSet, Seed, compress,
+    decompress,
 };
 use sha2::{Digest, Sha256};
 use std::alloc::Global;
@@ -91,33 +92,44 @@ fn digest(noise: &[u32; DEGREE]) -> B32 {
     hasher.finalize()
 }
 
+// The bytes of these digits.
+fn bytes<const N: usize>(digits: &str) -> Result<[u8; N], Fail> {
+    Ok(<[u8; N] as FromHex>::from_hex(digits)?)
+}
+
 // Whether a noise is the row's, and so many bits are decrypted wrongly.
 fn is_row<H: KemHash>(alloc: Global, row: &Noise) -> Result<bool, Fail> {
-    let seed = <[u8; 64] as FromHex>::from_hex(row.seed)?;
-    let m = <[u8; 32] as FromHex>::from_hex(row.m)?;
-    let r = <[u8; 32] as FromHex>::from_hex(row.r)?;
+    let seed = bytes::<64>(row.seed)?;
+    let m = bytes::<32>(row.m)?;
+    let r = bytes::<32>(row.r)?;
     let found = encrypt_and_decrypt::<H>(alloc, row.set, &seed, &m, &r)?;
-    let wanted = <[u8; 32] as FromHex>::from_hex(row.digest)?;
+    let wanted = bytes::<32>(row.digest)?;
     Ok(digest(&found.noise) == wanted && wrong_bits(&found, &m) == Some(row.wrong))
+}
+
+// Whether each row of a family holds.
+fn are_rows<H: KemHash>(alloc: Global, rows: &[Noise]) -> Result<bool, Fail> {
+    for row in rows {
+        if !is_row::<H>(alloc, row)? {
+            return Ok(false);
+        }
+    }
+    Ok(true)
 }
 
 #[test]
 fn noise_is_that_of_the_model(rt: HostRuntime) -> Result<(), Fail> {
-    for row in sha_2_rows() {
-        assert!(rt; is_row::<Sha2Hash>(rt.alloc(), row)?);
-    }
-    for row in one_byte_rows() {
-        assert!(rt; is_row::<OneByteHash>(rt.alloc(), row)?);
-    }
+    assert!(rt; are_rows::<Sha2Hash>(rt.alloc(), sha_2_rows())?);
+    assert!(rt; are_rows::<OneByteHash>(rt.alloc(), one_byte_rows())?);
     Ok(())
 }
 
 // Whether the noise at the row's place is the row's, and the bit there is decrypted as it says.
-fn is_end(alloc: Global, row: &End) -> Result<bool, Fail> {
-    let seed = <[u8; 64] as FromHex>::from_hex(row.seed)?;
-    let m = <[u8; 32] as FromHex>::from_hex(row.m)?;
-    let r = <[u8; 32] as FromHex>::from_hex(row.r)?;
-    let found = encrypt_and_decrypt::<OneByteHash>(alloc, row.set, &seed, &m, &r)?;
+fn is_end<H: KemHash>(alloc: Global, row: &End) -> Result<bool, Fail> {
+    let seed = bytes::<64>(row.seed)?;
+    let m = bytes::<32>(row.m)?;
+    let r = bytes::<32>(row.r)?;
+    let found = encrypt_and_decrypt::<H>(alloc, row.set, &seed, &m, &r)?;
     let place = row.place % DEGREE;
     let is_right = read(found.masked[place]) == bit(&m, place);
     Ok(found.noise[place] == row.noise && is_right == row.right && wrong_bits(&found, &m).is_some())
@@ -126,35 +138,67 @@ fn is_end(alloc: Global, row: &End) -> Result<bool, Fail> {
 #[test]
 fn noise_meets_the_ends(rt: HostRuntime) -> Result<(), Fail> {
     for row in ends() {
-        assert!(rt; is_end(rt.alloc(), row)?);
+        assert!(rt; is_end::<OneByteHash>(rt.alloc(), row)?);
     }
     Ok(())
 }
 
+// What is seen of an encapsulation and its decapsulation.
+#[derive(Drop)]
+struct Exchange {
+    digest: B32,
+    shared: B32,
+    answer: B32,
+}
+
+// The encapsulation of a message under the key of a seed, and its decapsulation.
+fn exchanged<P: ParameterSet, H: KemHash>(
+    alloc: Global,
+    seed: &Seed,
+    m: &B32,
+) -> Result<Exchange, KemError> {
+    let key = DecapsulationKey::<P, H>::from_seed(alloc, seed)?;
+    let (c, shared) = key.encapsulation_key().encapsulate_deterministic(m)?;
+    let answer = received_secret::<P, H>(alloc, seed, &c)?;
+    Ok(Exchange {
+        digest: Sha256::digest(c.as_slice()),
+        shared,
+        answer,
+    })
+}
+
 // Whether an encapsulation and its decapsulation are the row's.
-fn is_decapsulation<P: ParameterSet>(alloc: Global, row: &Decapsulation) -> Result<bool, Fail> {
-    let seed = <[u8; 64] as FromHex>::from_hex(row.seed)?;
-    let m = <[u8; 32] as FromHex>::from_hex(row.m)?;
-    let key = DecapsulationKey::<P, OneByteHash>::from_seed(alloc, &seed)?;
-    let (c, shared) = key.encapsulation_key().encapsulate_deterministic(&m)?;
-    let answer = received_secret::<P, OneByteHash>(alloc, &seed, &c)?;
+fn is_decapsulation<P: ParameterSet, H: KemHash>(
+    alloc: Global,
+    row: &Decapsulation,
+) -> Result<bool, Fail> {
+    let seed = bytes::<64>(row.seed)?;
+    let m = bytes::<32>(row.m)?;
+    let made = exchanged::<P, H>(alloc, &seed, &m)?;
     Ok(
-        Sha256::digest(c.as_slice()) == <[u8; 32] as FromHex>::from_hex(row.digest)?
-            && shared == <[u8; 32] as FromHex>::from_hex(row.shared)?
-            && answer == <[u8; 32] as FromHex>::from_hex(row.answer)?,
+        made.digest == bytes::<32>(row.digest)?
+            && made.shared == bytes::<32>(row.shared)?
+            && made.answer == bytes::<32>(row.answer)?,
     )
+}
+
+// Whether each row of a parameter set holds.
+fn are_decapsulations<P: ParameterSet>(
+    alloc: Global,
+    rows: &[Decapsulation],
+) -> Result<bool, Fail> {
+    for row in rows {
+        if !is_decapsulation::<P, OneByteHash>(alloc, row)? {
+            return Ok(false);
+        }
+    }
+    Ok(true)
 }
 
 #[test]
 fn decapsulations_have_their_answers(rt: HostRuntime) -> Result<(), Fail> {
-    for row in decapsulations_512() {
-        assert!(rt; is_decapsulation::<MlKem512>(rt.alloc(), row)?);
-    }
-    for row in decapsulations_768() {
-        assert!(rt; is_decapsulation::<MlKem768>(rt.alloc(), row)?);
-    }
-    for row in decapsulations_1024() {
-        assert!(rt; is_decapsulation::<MlKem1024>(rt.alloc(), row)?);
-    }
+    assert!(rt; are_decapsulations::<MlKem512>(rt.alloc(), decapsulations_512())?);
+    assert!(rt; are_decapsulations::<MlKem768>(rt.alloc(), decapsulations_768())?);
+    assert!(rt; are_decapsulations::<MlKem1024>(rt.alloc(), decapsulations_1024())?);
     Ok(())
 }

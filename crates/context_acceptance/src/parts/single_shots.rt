@@ -2,9 +2,10 @@
 
 use super::{ConstantDraw, key};
 use hpke::{
-    AeadTag, AesGcm128, AesGcm256, ExportOnlyAead, HkdfSha256, HkdfSha384, HkdfSha512, HpkeError,
-    MaskKem, OpModeR, OpModeS, PskBundle, setup_receiver, setup_sender, single_shot_open,
-    single_shot_open_in_place_detached, single_shot_seal, single_shot_seal_in_place_detached,
+    Aead, AeadTag, AesGcm128, AesGcm256, ExportOnlyAead, HkdfSha256, HkdfSha384, HkdfSha512,
+    HpkeError, Kdf, MaskKem, MaskKey, OpModeR, OpModeS, PskBundle, setup_receiver, setup_sender,
+    single_shot_open, single_shot_open_in_place_detached, single_shot_seal,
+    single_shot_seal_in_place_detached,
 };
 use std::alloc::Global;
 use std::test::Fail;
@@ -46,12 +47,16 @@ fn recipient<'a>(
 }
 
 // What a single shot seals in the first mode, opened in the second under this info.
-fn sealed_and_opened(alloc: Global, modes: [u8; 2], info: &[u8]) -> Result<Vec<u8>, HpkeError> {
+fn sealed_and_opened<A: Aead, D: Kdf>(
+    alloc: Global,
+    modes: [u8; 2],
+    info: &[u8],
+) -> Result<Vec<u8>, HpkeError> {
     let psk = PSK;
     let psk_id = PSK_ID;
     let bundle = PskBundle { psk, psk_id };
     let recip = key(alloc, &[1; 32])?;
-    let (encapped_key, sealed) = single_shot_seal::<AesGcm128, HkdfSha512, MaskKem, ConstantDraw>(
+    let (encapped_key, sealed) = single_shot_seal::<A, D, MaskKem, ConstantDraw>(
         alloc,
         &sender(alloc, modes[0], bundle)?,
         &recip,
@@ -60,7 +65,7 @@ fn sealed_and_opened(alloc: Global, modes: [u8; 2], info: &[u8]) -> Result<Vec<u
         b"aad",
         &mut ConstantDraw::new(7),
     )?;
-    single_shot_open::<AesGcm128, HkdfSha512, MaskKem>(
+    single_shot_open::<A, D, MaskKem>(
         alloc,
         &recipient(alloc, modes[1], bundle)?,
         &recip,
@@ -87,125 +92,189 @@ fn modes_and_infos() -> &'static [([u8; 2], &'static str, Option<HpkeError>)] {
     ]
 }
 
+// Whether what the first mode seals is opened in the second, or else what refuses it.
+fn is_opened_or<A: Aead, D: Kdf>(
+    alloc: Global,
+    modes: [u8; 2],
+    info: &[u8],
+    refusal: Option<HpkeError>,
+) -> bool {
+    match sealed_and_opened::<A, D>(alloc, modes, info) {
+        Ok(text) => refusal.is_none() && text.as_slice() == b"text".as_slice(),
+        Err(e) => Some(e) == refusal,
+    }
+}
+
 // The test KEM takes no sender's identity.
 #[test]
 fn single_shots_in_each_mode(rt: HostRuntime) -> Result<(), Fail> {
     for &(modes, info, refusal) in modes_and_infos() {
-        match sealed_and_opened(rt.alloc(), modes, info.as_bytes()) {
-            Ok(text) => {
-                assert_eq!(rt; refusal, None);
-                assert_eq!(rt; text.as_slice(), b"text".as_slice());
-            }
-            Err(e) => assert_eq!(rt; Some(e), refusal),
-        }
+        let info = info.as_bytes();
+        assert!(rt; is_opened_or::<AesGcm128, HkdfSha512>(rt.alloc(), modes, info, refusal));
     }
     Ok(())
+}
+
+// What a sender's calls in this mode are refused with, where the text is as it was.
+fn sending_refusals<A: Aead, D: Kdf>(
+    alloc: Global,
+    mode: u8,
+) -> Result<Option<[Option<HpkeError>; 2]>, HpkeError> {
+    let psk = PSK;
+    let psk_id = PSK_ID;
+    let mode_s = sender(alloc, mode, PskBundle { psk, psk_id })?;
+    let recip = key(alloc, &[1; 32])?;
+    let mut text = *b"text";
+    let context = setup_sender::<A, D, MaskKem, ConstantDraw>(
+        alloc,
+        &mode_s,
+        &recip,
+        b"",
+        &mut ConstantDraw::new(7),
+    ).err();
+    let shot = single_shot_seal_in_place_detached::<A, D, MaskKem, ConstantDraw>(
+        alloc,
+        &mode_s,
+        &recip,
+        b"",
+        &mut text,
+        b"",
+        &mut ConstantDraw::new(7),
+    )
+    .err();
+    Ok(if text == *b"text" {
+        Some([context, shot])
+    } else {
+        None
+    })
+}
+
+// What a recipient's calls in this mode are refused with, where the text is as it was.
+fn receiving_refusals<A: Aead, D: Kdf>(
+    alloc: Global,
+    mode: u8,
+) -> Result<Option<[Option<HpkeError>; 2]>, HpkeError> {
+    let psk = PSK;
+    let psk_id = PSK_ID;
+    let mode_r = recipient(alloc, mode, PskBundle { psk, psk_id })?;
+    let recip = key(alloc, &[1; 32])?;
+    let mut text = *b"text";
+    let context = setup_receiver::<A, D, MaskKem>(alloc, &mode_r, &recip, &recip, b"").err();
+    let shot = single_shot_open_in_place_detached::<A, D, MaskKem>(
+        alloc,
+        &mode_r,
+        &recip,
+        &recip,
+        b"",
+        &mut text,
+        b"",
+        &AeadTag::default(),
+    )
+    .err();
+    Ok(if text == *b"text" {
+        Some([context, shot])
+    } else {
+        None
+    })
+}
+
+// Whether the calls of both sides refuse a sender's identity in this mode.
+fn are_refused<A: Aead, D: Kdf>(alloc: Global, mode: u8) -> Result<bool, HpkeError> {
+    let sending = sending_refusals::<A, D>(alloc, mode)?;
+    let receiving = receiving_refusals::<A, D>(alloc, mode)?;
+    Ok(
+        sending == Some([Some(HpkeError::EncapError); 2])
+            && receiving == Some([Some(HpkeError::DecapError); 2]),
+    )
 }
 
 // Each other call that sets up a context refuses a sender's identity too.
 #[test]
 fn senders_are_refused(rt: HostRuntime) -> Result<(), Fail> {
-    let alloc = rt.alloc();
-    let recip = key(alloc, &[1; 32])?;
-    let psk = PSK;
-    let psk_id = PSK_ID;
-    let bundle = PskBundle { psk, psk_id };
-    let mut text = *b"text";
     for mode in [2, 3] {
-        let mode_s = sender(alloc, mode, bundle)?;
-        let refused = setup_sender::<AesGcm128, HkdfSha256, MaskKem, ConstantDraw>(
-            alloc,
-            &mode_s,
-            &recip,
-            b"",
-            &mut ConstantDraw::new(7),
-        );
-        assert_eq!(rt; refused.err(), Some(HpkeError::EncapError));
-        let refused = single_shot_seal_in_place_detached::<
-            AesGcm128,
-            HkdfSha256,
-            MaskKem,
-            ConstantDraw,
-        >(
-            alloc,
-            &mode_s,
-            &recip,
-            b"",
-            &mut text,
-            b"",
-            &mut ConstantDraw::new(7),
-        );
-        assert_eq!(rt; refused.err(), Some(HpkeError::EncapError));
-
-        let mode_r = recipient(alloc, mode, bundle)?;
-        let refused = setup_receiver::<AesGcm128, HkdfSha256, MaskKem>(
-            alloc, &mode_r, &recip, &recip, b"",
-        );
-        assert_eq!(rt; refused.err(), Some(HpkeError::DecapError));
-        let refused = single_shot_open_in_place_detached::<AesGcm128, HkdfSha256, MaskKem>(
-            alloc,
-            &mode_r,
-            &recip,
-            &recip,
-            b"",
-            &mut text,
-            b"",
-            &AeadTag::default(),
-        );
-        assert_eq!(rt; refused.err(), Some(HpkeError::DecapError));
-        assert!(rt; text == *b"text");
+        assert!(rt; are_refused::<AesGcm128, HkdfSha256>(rt.alloc(), mode)?);
     }
     Ok(())
 }
 
-// A tag of zeros opens nothing and changes nothing; the tag that was made opens the text.
-#[test]
-fn detached_single_shots(rt: HostRuntime) -> Result<(), Fail> {
-    let alloc = rt.alloc();
-    let recip = key(alloc, &[1; 32])?;
+// A text of four bytes that is sealed in place.
+#[derive(Drop)]
+struct Detached<A: Aead> {
+    encapped_key: MaskKey,
+    text: [u8; 4],
+    tag: AeadTag<A>,
+}
+
+// The text sealed in place to the key.
+fn sealed_in_place<A: Aead, D: Kdf>(
+    alloc: Global,
+    recip: &MaskKey,
+) -> Result<Detached<A>, HpkeError> {
     let mut text = *b"text";
-    let (encapped_key, tag) = single_shot_seal_in_place_detached::<
-        AesGcm256,
-        HkdfSha384,
-        MaskKem,
-        ConstantDraw,
-    >(
+    let (encapped_key, tag) = single_shot_seal_in_place_detached::<A, D, MaskKem, ConstantDraw>(
         alloc,
         &OpModeS::Base,
-        &recip,
+        recip,
         b"info",
         &mut text,
         b"aad",
         &mut ConstantDraw::new(7),
     )?;
-    assert!(rt; text != *b"text");
-    let sealed = text;
-    for (tag, answer, left) in [
-        (AeadTag::default(), Err(HpkeError::OpenError), sealed),
-        (tag, Ok(()), *b"text"),
-    ] {
-        let opened = single_shot_open_in_place_detached::<AesGcm256, HkdfSha384, MaskKem>(
-            alloc,
-            &OpModeR::Base,
-            &recip,
-            &encapped_key,
-            b"info",
-            &mut text,
-            b"aad",
-            &tag,
-        );
-        assert!(rt; opened == answer);
-        assert!(rt; text == left);
-    }
+    Ok(Detached {
+        encapped_key,
+        text,
+        tag,
+    })
+}
+
+// What a tag answers a sealed text with, and what the text is then.
+fn opened_by<A: Aead, D: Kdf>(
+    alloc: Global,
+    recip: &MaskKey,
+    sealed: &Detached<A>,
+    tag: &AeadTag<A>,
+) -> (Result<(), HpkeError>, [u8; 4]) {
+    let mut text = sealed.text;
+    let opened = single_shot_open_in_place_detached::<A, D, MaskKem>(
+        alloc,
+        &OpModeR::Base,
+        recip,
+        &sealed.encapped_key,
+        b"info",
+        &mut text,
+        b"aad",
+        tag,
+    );
+    (opened, text)
+}
+
+// Whether a tag of zeros opens nothing and changes nothing, and the tag that was made opens the text.
+fn opens_by_its_tag<A: Aead, D: Kdf>(alloc: Global) -> Result<bool, HpkeError> {
+    let recip = key(alloc, &[1; 32])?;
+    let sealed = sealed_in_place::<A, D>(alloc, &recip)?;
+    let forged = opened_by::<A, D>(alloc, &recip, &sealed, &AeadTag::default());
+    let opened = opened_by::<A, D>(alloc, &recip, &sealed, &sealed.tag);
+    Ok(
+        sealed.text != *b"text"
+            && forged == (Err(HpkeError::OpenError), sealed.text)
+            && opened == (Ok(()), *b"text"),
+    )
+}
+
+// A tag of zeros opens nothing and changes nothing; the tag that was made opens the text.
+#[test]
+fn detached_single_shots(rt: HostRuntime) -> Result<(), Fail> {
+    assert!(rt; opens_by_its_tag::<AesGcm256, HkdfSha384>(rt.alloc())?);
     Ok(())
 }
 
-#[test]
-fn a_text_that_cannot_be_sealed(rt: HostRuntime) -> Result<(), Fail> {
-    let alloc = rt.alloc();
+// What both calls that seal are refused with, where the text is as it was.
+fn sealing_refusals<A: Aead, D: Kdf>(
+    alloc: Global,
+) -> Result<Option<[Option<HpkeError>; 2]>, HpkeError> {
     let recip = key(alloc, &[1; 32])?;
     let mut text = *b"text";
-    let refused = single_shot_seal::<ExportOnlyAead, HkdfSha256, MaskKem, ConstantDraw>(
+    let attached = single_shot_seal::<A, D, MaskKem, ConstantDraw>(
         alloc,
         &OpModeS::Base,
         &recip,
@@ -213,14 +282,9 @@ fn a_text_that_cannot_be_sealed(rt: HostRuntime) -> Result<(), Fail> {
         &text,
         b"",
         &mut ConstantDraw::new(7),
-    );
-    assert_eq!(rt; refused.err(), Some(HpkeError::SealError));
-    let refused = single_shot_seal_in_place_detached::<
-        ExportOnlyAead,
-        HkdfSha256,
-        MaskKem,
-        ConstantDraw,
-    >(
+    )
+    .err();
+    let detached = single_shot_seal_in_place_detached::<A, D, MaskKem, ConstantDraw>(
         alloc,
         &OpModeS::Base,
         &recip,
@@ -228,8 +292,18 @@ fn a_text_that_cannot_be_sealed(rt: HostRuntime) -> Result<(), Fail> {
         &mut text,
         b"",
         &mut ConstantDraw::new(7),
-    );
-    assert_eq!(rt; refused.err(), Some(HpkeError::SealError));
-    assert_eq!(rt; text, *b"text");
+    )
+    .err();
+    Ok(if text == *b"text" {
+        Some([attached, detached])
+    } else {
+        None
+    })
+}
+
+#[test]
+fn a_text_that_cannot_be_sealed(rt: HostRuntime) -> Result<(), Fail> {
+    let refused = sealing_refusals::<ExportOnlyAead, HkdfSha256>(rt.alloc())?;
+    assert!(rt; refused == Some([Some(HpkeError::SealError); 2]));
     Ok(())
 }

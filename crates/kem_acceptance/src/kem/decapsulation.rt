@@ -3,9 +3,9 @@
 
 use crate::kem::zero_draw::ZeroDraw;
 use hash_families::{Ones, RepeatingHash};
-use kem_hash::Sha2Hash;
+use kem_hash::{KemHash, Sha2Hash};
 use ml_kem::{
-    Ciphertext, DecapsulationKey512, DecapsulationKey768, DecapsulationKey1024, KemError,
+    Ciphertext, DecapsulationKey512, DecapsulationKey768, DecapsulationKey1024, KemError, SharedKey,
 };
 use sha2::{Digest, Sha256};
 use std::alloc::Global;
@@ -26,57 +26,80 @@ const REJECTED_KEY: &[u8; 32] =
 const EXPANDED_FORM_HASH: &[u8; 32] =
     b"\x83\x6a\x68\x60\x07\xb7\xd1\x30\x26\x10\xb1\x68\x19\x48\xda\xe1\x0a\x86\x09\x08\x33\xad\xe9\xd0\xd0\xe7\xe2\x38\xda\x18\x24\xff";
 
+// Whether the key at 1024 finds the shared key that an encapsulation of zeros gives.
+fn decapsulates<H: KemHash>(alloc: Global) -> Result<bool, KemError> {
+    let key = DecapsulationKey1024::<H>::from_seed(alloc, SEED)?;
+    let (c, sent) = key.encapsulation_key().encapsulate_deterministic(&[0; 32])?;
+    Ok(sent == *SHARED_KEY && key.decapsulate(&c)? == *SHARED_KEY)
+}
+
 #[test]
 fn decapsulates_at_1024(rt: HostRuntime) -> Result<(), Fail> {
-    let key = DecapsulationKey1024::<Sha2Hash>::from_seed(rt.alloc(), SEED)?;
-    let (c, sent) = key.encapsulation_key().encapsulate_deterministic(&[0; 32])?;
-    assert!(rt; sent == *SHARED_KEY);
-    assert!(rt; key.decapsulate(&c)? == *SHARED_KEY);
+    assert!(rt; decapsulates::<Sha2Hash>(rt.alloc())?);
     Ok(())
+}
+
+// What the key at 1024 answers a ciphertext of zeros with.
+fn rejected<H: KemHash>(alloc: Global) -> Result<SharedKey, Fail> {
+    let key = DecapsulationKey1024::<H>::from_seed(alloc, SEED)?;
+    let c = Ciphertext::from_slice(alloc, &[0; 1568])?;
+    Ok(key.decapsulate(&c)?)
 }
 
 #[test]
 fn rejects_at_1024(rt: HostRuntime) -> Result<(), Fail> {
-    let key = DecapsulationKey1024::<Sha2Hash>::from_seed(rt.alloc(), SEED)?;
-    let c = Ciphertext::from_slice(rt.alloc(), &[0; 1568])?;
-    assert!(rt; key.decapsulate(&c)? == *REJECTED_KEY);
+    assert!(rt; rejected::<Sha2Hash>(rt.alloc())? == *REJECTED_KEY);
     Ok(())
+}
+
+// The expanded form of the zero seed at 768.
+fn expanded_form<H: KemHash>(alloc: Global) -> Result<Vec<u8>, KemError> {
+    let key = DecapsulationKey768::<H>::from_seed(alloc, &[0; 64])?;
+    Ok(key.to_expanded_bytes()?)
 }
 
 #[test]
 fn expanded_form_at_768(rt: HostRuntime) -> Result<(), Fail> {
-    let key = DecapsulationKey768::<Sha2Hash>::from_seed(rt.alloc(), &[0; 64])?;
-    let form = key.to_expanded_bytes()?;
+    let form = expanded_form::<Sha2Hash>(rt.alloc())?;
     assert!(rt; Sha256::digest(form.as_slice()) == *EXPANDED_FORM_HASH);
     Ok(())
 }
 
-// The zero seed's expanded form, and the key that is read from it.
-fn read_key(alloc: Global) -> Result<(Vec<u8>, DecapsulationKey512<Sha2Hash>), Fail> {
-    let key = DecapsulationKey512::<Sha2Hash>::from_seed(alloc, &[0; 64])?;
+// Whether both calls read one key from the zero seed's expanded form.
+fn reads_one_key<H: KemHash>(alloc: Global) -> Result<bool, Fail> {
+    let key = DecapsulationKey512::<H>::from_seed(alloc, &[0; 64])?;
     let form = key.to_expanded_bytes()?;
-    let read = DecapsulationKey512::from_expanded(alloc, form.as_slice())?;
-    Ok((form, read))
+    let read = DecapsulationKey512::<H>::from_expanded(alloc, form.as_slice())?;
+    let again = DecapsulationKey512::<H>::from_expanded_bytes(alloc, form.as_slice())?;
+    Ok(again == read)
 }
 
 #[test]
 fn reads_an_expanded_form(rt: HostRuntime) -> Result<(), Fail> {
-    let (form, read) = read_key(rt.alloc())?;
-    let again = DecapsulationKey512::from_expanded_bytes(rt.alloc(), form.as_slice())?;
-    assert!(rt; again == read);
+    assert!(rt; reads_one_key::<Sha2Hash>(rt.alloc())?);
     Ok(())
+}
+
+// Whether a key that is drawn has the zero seed, and its copy is equal.
+fn draws_zeros<H: KemHash>(alloc: Global) -> Result<bool, KemError> {
+    let drawn = DecapsulationKey512::<H>::generate_from_rng(alloc, &mut ZeroDraw)?;
+    let copy = drawn.try_clone()?;
+    Ok(drawn.to_seed() == Some([0; 64]) && drawn.to_bytes() == Some([0; 64]) && copy == drawn)
 }
 
 #[test]
 fn draws_the_seed(rt: HostRuntime) -> Result<(), Fail> {
-    let drawn = DecapsulationKey512::<Sha2Hash>::generate_from_rng(rt.alloc(), &mut ZeroDraw)?;
-    assert!(rt; drawn.to_seed() == Some([0; 64]) && drawn.to_bytes() == Some([0; 64]));
-    assert!(rt; drawn.try_clone()? == drawn);
+    assert!(rt; draws_zeros::<Sha2Hash>(rt.alloc())?);
     Ok(())
+}
+
+// Whether the zero seed gives no key.
+fn is_exhausted<H: KemHash>(alloc: Global) -> bool {
+    let refused = DecapsulationKey512::<H>::from_seed(alloc, &[0; 64]);
+    matches!(refused, Err(KemError::XofExhausted))
 }
 
 #[test]
 fn an_exhausted_xof_gives_no_key(rt: HostRuntime) {
-    let refused = DecapsulationKey512::<RepeatingHash<Ones>>::from_seed(rt.alloc(), &[0; 64]);
-    assert!(rt; matches!(refused, Err(KemError::XofExhausted)));
+    assert!(rt; is_exhausted::<RepeatingHash<Ones>>(rt.alloc()));
 }

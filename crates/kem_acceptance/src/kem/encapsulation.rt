@@ -2,11 +2,12 @@
 //! in another language, of which the ciphertext is compared by its SHA-256, and each call once.
 
 use crate::kem::zero_draw::ZeroDraw;
-use kem_hash::Sha2Hash;
+use kem_hash::{KemHash, Sha2Hash};
 use ml_kem::{
     Ciphertext, CiphertextError, EncapsulationKey512, EncapsulationKey768, KeyError, MlKem768,
 };
 use sha2::{Digest, Sha256};
+use std::alloc::Global;
 use std::test::Fail;
 
 const KEY: &[u8; 800] =
@@ -21,31 +22,45 @@ const CIPHERTEXT_HASH: &[u8; 32] =
 const SHARED_KEY: &[u8; 32] =
     b"\x1c\x63\x7e\xce\x73\x6f\xf9\x3e\x8b\x0b\xf1\x8e\x87\xfa\x58\x32\xcf\x8d\x0a\x6f\x7c\xd0\x77\xaf\xd3\xec\x7a\x71\x8b\x80\x4f\x19";
 
+// Whether the key encapsulates the message to the ciphertext and the shared key.
+fn encapsulates<H: KemHash>(alloc: Global) -> Result<bool, Fail> {
+    let ek = EncapsulationKey512::<H>::new(alloc, KEY)?;
+    let (c, shared) = ek.encapsulate_deterministic(MESSAGE)?;
+    Ok(Sha256::digest(c.as_slice()) == *CIPHERTEXT_HASH && shared == *SHARED_KEY)
+}
+
 #[test]
 fn encapsulates_at_512(rt: HostRuntime) -> Result<(), Fail> {
-    let ek = EncapsulationKey512::<Sha2Hash>::new(rt.alloc(), KEY)?;
-    let (c, shared) = ek.encapsulate_deterministic(MESSAGE)?;
-    assert!(rt; Sha256::digest(c.as_slice()) == *CIPHERTEXT_HASH);
-    assert!(rt; shared == *SHARED_KEY);
+    assert!(rt; encapsulates::<Sha2Hash>(rt.alloc())?);
     Ok(())
+}
+
+// Whether a message that is drawn is the zeros that the source draws.
+fn draws_zeros<H: KemHash>(alloc: Global) -> Result<bool, Fail> {
+    let ek = EncapsulationKey512::<H>::new(alloc, KEY)?;
+    let (_, drawn) = ek.encapsulate_with_rng(&mut ZeroDraw)?;
+    let (_, shared) = ek.encapsulate_deterministic(&[0; 32])?;
+    Ok(drawn == shared)
 }
 
 #[test]
 fn draws_the_message(rt: HostRuntime) -> Result<(), Fail> {
-    let ek = EncapsulationKey512::<Sha2Hash>::new(rt.alloc(), KEY)?;
-    let (_, drawn) = ek.encapsulate_with_rng(&mut ZeroDraw)?;
-    let (_, shared) = ek.encapsulate_deterministic(&[0; 32])?;
-    assert!(rt; drawn == shared);
+    assert!(rt; draws_zeros::<Sha2Hash>(rt.alloc())?);
     Ok(())
+}
+
+// Whether a key of zeros writes the same bytes by both calls, and its copy is equal.
+fn keeps_its_bytes<H: KemHash>(alloc: Global) -> Result<bool, Fail> {
+    let zeros = EncapsulationKey768::<H>::new(alloc, &[0; 1184])?;
+    let mut written = [1; 1184];
+    zeros.write_bytes(&mut written);
+    let copy = zeros.try_clone()?;
+    Ok(zeros.to_bytes()?.as_slice() == written.as_slice() && copy == zeros)
 }
 
 #[test]
 fn keys_of_bytes(rt: HostRuntime) -> Result<(), Fail> {
-    let zeros = EncapsulationKey768::<Sha2Hash>::new(rt.alloc(), &[0; 1184])?;
-    let mut written = [1; 1184];
-    zeros.write_bytes(&mut written);
-    assert!(rt; zeros.to_bytes()?.as_slice() == written.as_slice());
-    assert!(rt; zeros.try_clone()? == zeros);
+    assert!(rt; keeps_its_bytes::<Sha2Hash>(rt.alloc())?);
     Ok(())
 }
 
@@ -56,10 +71,15 @@ fn ciphertexts_of_bytes(rt: HostRuntime) -> Result<(), Fail> {
     Ok(())
 }
 
+// Whether bytes are refused as a key.
+fn is_no_key<H: KemHash>(alloc: Global, bytes: &[u8]) -> bool {
+    let refused = EncapsulationKey768::<H>::new(alloc, bytes);
+    matches!(refused, Err(KeyError::InvalidKey))
+}
+
 #[test]
 fn other_bytes_are_refused(rt: HostRuntime) {
-    let ones = EncapsulationKey768::<Sha2Hash>::new(rt.alloc(), &[0xff; 1184]);
-    assert!(rt; matches!(ones, Err(KeyError::InvalidKey)));
+    assert!(rt; is_no_key::<Sha2Hash>(rt.alloc(), &[0xff; 1184]));
     let short = Ciphertext::<MlKem768>::from_slice(rt.alloc(), &[0; 1087]);
     assert!(rt; matches!(short, Err(CiphertextError::WrongLength(1088, 1087))));
 }
