@@ -9,7 +9,7 @@ use age_send::write::age_stanza;
 use age_send::{finish_to, grease_the_joint, roll, send_stanza_to, send_to};
 use rand_core::Rng;
 use rand_core::utils::{self, NextWord};
-use std::alloc::{AllocError, Global};
+use std::alloc::Global;
 use std::marker::Model;
 use std::test::Fail;
 
@@ -102,21 +102,17 @@ fn sends_without_grease(rt: HostRuntime) -> Result<(), Fail> {
     Ok(())
 }
 
-// A stanza `test` with an argument and a body.
-fn stanza(alloc: Global) -> Result<Stanza, AllocError> {
-    let tag = String::from_str(alloc, "test")?;
-    let args = vec![in alloc; String::from_str(alloc, "foo")?]?;
-    let body = b"bar".to_vec(alloc)?;
-    Ok(Stanza { tag, args, body })
-}
-
 #[test]
 fn a_stanza_is_sent_under_a_command(rt: HostRuntime) -> Result<(), Fail> {
     let alloc = rt.alloc();
     let mut out = sink(alloc);
     let mut counting = Counting(7);
     assert!(rt; roll(alloc, &mut counting)?.is_none());
-    let stanza = stanza(alloc)?;
+    let stanza = Stanza {
+        tag: String::from_str(alloc, "test")?,
+        args: vec![in alloc; String::from_str(alloc, "foo")?]?,
+        body: b"bar".to_vec(alloc)?,
+    };
     let metadata = [String::from_str(alloc, "0")?];
     assert!(rt; send_stanza_to(alloc, &mut out, &mut counting, "wrap", &metadata, &stanza).is_ok());
     assert!(rt; out.bytes() == b"-> wrap 0 test foo\nYmFy\n".as_slice());

@@ -1,6 +1,6 @@
 //! Packing and unpacking against answers from outside.
 
-ghost use Rattle.std.specs.Prelude.{◌≡◌, ◌⊎◌, ◌×◌, ◌*◌, ◌^◌, ◌≤◌, length};
+ghost use Rattle.std.specs.Prelude.{◌≡◌, ◌⊎◌, ◌*◌, ◌^◌, ◌≤◌, length};
 ghost use Rattle.module_lattice.specs.Groups.{lcm};
 
 use module_lattice::{BaseField, Field, Field8380417, byte_decode, byte_encode};
